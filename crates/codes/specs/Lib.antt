@@ -1,0 +1,4 @@
+pub mod MessageTypes
+pub mod CallStates
+pub mod Causes
+pub mod Attributes
