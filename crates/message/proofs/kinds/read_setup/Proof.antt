@@ -1,0 +1,19 @@
+-- `read_setup` meets its contract: cut short, or the whole message.
+use borrow.Author.Needs.{needs}
+use mathlib.Core.Path.{ap, _∙_}
+use Rattle.message.specs.declared.Reference.{Reference}
+use Rattle.message.specs.declared.Message.the-variants.{Setup}
+use Rattle.message.specs.Reading.{wholeOf, setupOf}
+use Rattle.message.proofs.Bodies.{whole-cut}
+use Rattle.message.proofs.kinds.read_setup.Statement.{statement}
+use Rattle.message.proofs.kinds.read_setup.Tie as tie
+
+pub read-setup-spec : {M : Type 1} → statement M
+unfolding setupOf
+read-setup-spec =
+    tie.close
+    (tie.spec
+    (λ c. whole-cut _ _ _ (c .if1 .taken))
+    (λ c κs. search needs)
+    (λ c κs. search needs)
+    (λ c. c .whole .ensures ∙ ap (λ (x : Reference). wholeOf (c .before .before .before .before .args .octets .now) 6 (Setup x)) (c .before .reference-at .ensures)))

@@ -1,0 +1,4 @@
+pub mod Content
+pub mod Tables
+pub mod Reading
+pub mod Answers

@@ -1,0 +1,44 @@
+// Writing the nine messages of broadcast call control, GSM 04.69 clauses 8 and 9, into a lent buffer.
+mod kinds;
+
+ghost use mathlib.Core.Path.{_≡_};
+ghost use Prim.Native.Nat.{_≤_};
+ghost use Rattle.message.specs.Tables.{headOf};
+ghost use Rattle.writing.specs.Writing.{writeAnswer, writeLeaves};
+use message::Message;
+
+// What writing comes to; the number that document 01 gives each is `writtenNumber`.
+pub enum Wrote {
+    // Written, with so many octets.
+    Written(usize),
+    // The lent buffer has under 255 octets.
+    ShortBuffer,
+    // A field beyond its width or length, a run outside the lent octets, transaction value 7 or more, or over 251 octets.
+    OutOfRange,
+}
+
+// The first octet of a message.
+fn head_of(flag: bool, value: u8) -> u8
+    requires { ⌜ value ≤ 6 ⌝ }
+    ensures { λ r. ⌜ r ≡ headOf flag value ⌝ }
+{
+    if flag {
+        return 129 + 16 * value;
+    }
+    1 + 16 * value
+}
+
+// Writes the message over the start of `buffer`. Its runs lie in `source`.
+pub fn write(buffer: &mut [u8], source: &[u8], flag: bool, value: u8, message: Message) -> Wrote
+    ensures { λ r. ⌜ r ≡ writeAnswer (now (buffer .entry)) (now (source .entry)) flag value message ⌝ }
+    ensures { λ _. ⌜ now (buffer .exit) ≡ writeLeaves (now (buffer .entry)) (now (source .entry)) flag value message ⌝ }
+{
+    if buffer.len() < 255 {
+        return Wrote::ShortBuffer;
+    }
+    if 6 < value {
+        return Wrote::OutOfRange;
+    }
+    let head = head_of(flag, value);
+    kinds::write_body(buffer, source, head, message)
+}
