@@ -1,0 +1,166 @@
+-- Laws of the kinds' writers: what was stored is what the table draws.
+use Prim.Native.Nat.{ℕ, suc, _+_, _*_, _≤_, _<_}
+use mathlib.Core.Path.{_≡_, refl, sym, ap, subst, _∙_}
+use mathlib.Core.List.{List, [], _∷_, _++_, append-nil, append-assoc}
+use mathlib.Core.Bool.{Bool, true, false, _&&_, and-false}
+use native.Mathlib.Omega.{arith}
+use lib.ListN.{length, set, length-append}
+use lib.Seq.{sets}
+use lib.Dec.{ltb}
+use borrow.Author.Tests.{lt-ltb, le-ltb}
+use Rattle.octets.proofs.Stores.{sets-then}
+use Rattle.element.specs.declared.Run.{Run}
+use Rattle.message.specs.declared.Reference.{Reference}
+use Rattle.message.specs.declared.Classmark.{Classmark}
+use Rattle.message.specs.declared.Half.{Half}
+use Rattle.message.specs.declared.Half.the-variants.{Absent, Present}
+use Rattle.message.specs.declared.Identity.{Identity}
+use Rattle.message.specs.declared.Identity.the-variants.{Absent as Anonymous, Present as Named}
+use Rattle.message.specs.declared.Message.{Message}
+use Rattle.message.specs.declared.Message.the-variants.{GetStatus}
+use Rattle.message.specs.Content.{
+  Content,
+  contentOf,
+  runOctets,
+  present,
+  connect,
+  getStatus,
+  immediateSetup,
+  setParameter,
+  setup,
+  status,
+  termination,
+  terminationReject,
+  terminationRequest,
+  referenceOctets,
+}
+use Rattle.message.specs.Tables.{typeOf, table}
+use Rattle.writing.specs.declared.Wrote.{Wrote}
+use Rattle.writing.specs.declared.Wrote.the-variants.{Written, OutOfRange}
+use Rattle.writing.specs.Bodies.{Writes, bodyOctets, bodyFits, causeOctets, runFits, halfFits, halfOctets, halfCount, statusFits}
+use Rattle.writing.proofs.Tests.{Good, good, Fine, fine, half-count}
+
+module _ (d xs : List ℕ) (fits : Bool) where
+  pub refused : fits ≡ false → Writes d xs fits OutOfRange d
+  refused g = record { answer = simp g; after = simp g }
+
+  pub done : (n : ℕ) (e : List ℕ) → fits ≡ true → length xs ≡ n → e ≡ sets d 0 xs → Writes d xs fits (Written n) e
+  done n e g l q = record { answer = simp g (ap Written (sym l)); after = simp g q }
+
+-- The kind that a message is decides.
+pub writes-at : (d s : List ℕ) (head : ℕ) (m n : Message) (r : Wrote) (e : List ℕ) → m ≡ n
+    → Writes d (bodyOctets head (contentOf s n)) (bodyFits s n) r e → Writes d (bodyOctets head (contentOf s m)) (bodyFits s m) r e
+writes-at d s head m n r e q p = rw q p
+
+-- Kinds of one shape share a writer: a type and a reference, or a type and a cause.
+pub writes-as : (d s xs : List ℕ) (head : ℕ) (m n : Message) (r : Wrote) (e : List ℕ) → m ≡ n → xs ≡ bodyOctets head (contentOf s n)
+    → Writes d xs (bodyFits s n) r e → Writes d (bodyOctets head (contentOf s m)) (bodyFits s m) r e
+writes-as d s xs head m n r e q x p = writes-at d s head m n r e q (subst (λ ys. Writes d ys (bodyFits s n) r e) x p)
+
+pub setup-octets : (head : ℕ) (r : Reference) → head ∷ 0x32 ∷ referenceOctets r ≡ bodyOctets head (setup r)
+unfolding bodyOctets typeOf table
+setup-octets head r = refl
+
+pub request-octets : (head : ℕ) (r : Reference) → head ∷ 0x35 ∷ referenceOctets r ≡ bodyOctets head (terminationRequest r)
+unfolding bodyOctets typeOf table
+request-octets head r = refl
+
+pub termination-octets : (head : ℕ) (s : List ℕ) (run : Run) → head ∷ 0x34 ∷ causeOctets s run ≡ bodyOctets head (termination (runOctets s run))
+unfolding bodyOctets typeOf table
+termination-octets head s run =
+    ap (λ (x : List ℕ). head ∷ 0x34 ∷ length (runOctets s run) ∷ x) (sym (append-nil (runOctets s run)))
+
+pub reject-octets : (head : ℕ) (s : List ℕ) (run : Run) → head ∷ 0x36 ∷ causeOctets s run ≡ bodyOctets head (terminationReject (runOctets s run))
+unfolding bodyOctets typeOf table
+reject-octets head s run =
+    ap (λ (x : List ℕ). head ∷ 0x36 ∷ length (runOctets s run) ∷ x) (sym (append-nil (runOctets s run)))
+
+module _ (d : List ℕ) (head : ℕ) (e : List ℕ) where
+  pub connect-done : (r : Reference) (o : ℕ) → o < 2
+      → e ≡ sets d 0 (head ∷ 0x33 ∷ r .first ∷ r .second ∷ r .third ∷ r .fourth ∷ o ∷ [])
+      → Writes d (bodyOctets head (connect r o)) (ltb o 2) (Written 7) e
+  unfolding bodyOctets typeOf table
+  connect-done r o h q =
+      let z : o + 16 * 0 ≡ o = omega arith in done d (bodyOctets head (connect r o)) _ 7 e (lt-ltb _ _ h) refl (rw z q)
+
+  pub parameter-done : (a : ℕ) → a < 16 → e ≡ sets d 0 (head ∷ 0x3A ∷ a ∷ [])
+      → Writes d (bodyOctets head (setParameter a)) (ltb a 16) (Written 3) e
+  unfolding bodyOctets typeOf table
+  parameter-done a h q =
+      let z : a + 16 * 0 ≡ a = omega arith in done d (bodyOctets head (setParameter a)) _ 3 e (lt-ltb _ _ h) refl (rw z q)
+
+module _ (d s : List ℕ) (head : ℕ) (run : Run) (e : List ℕ) where
+  pub cause-done : (kind : ℕ) → runFits s run 247 ≡ true → e ≡ sets d 0 (head ∷ kind ∷ run .count ∷ runOctets s run)
+      → Writes d (head ∷ kind ∷ causeOctets s run) (runFits s run 247) (Written (3 + run .count)) e
+  cause-done kind g q =
+      let l : length (runOctets s run) ≡ run .count = good s run 247 g .full in
+      done d (head ∷ kind ∷ causeOctets s run) _ (3 + run .count) e g (omega arith) (rw l q)
+
+  pub identified-done : runFits s run 8 ≡ true → e ≡ sets d 0 (head ∷ 0x39 ∷ 0x17 ∷ run .count ∷ runOctets s run)
+      → Writes d (bodyOctets head (getStatus (present (runOctets s run)))) (runFits s run 8) (Written (4 + run .count)) e
+  unfolding bodyOctets typeOf table
+  identified-done g q =
+      let l : length (runOctets s run) ≡ run .count = good s run 8 g .full in
+      done d (bodyOctets head (getStatus (present (runOctets s run)))) _ (4 + run .count) e g
+      (let k : length (runOctets s run ++ []) ≡ run .count = ap length (append-nil (runOctets s run)) ∙ l in
+      let u : suc (suc (suc (suc (length (runOctets s run ++ []))))) ≡ 4 + run .count = omega arith in
+      u)
+      (rw (append-nil, l) q)
+
+  pub immediate-done : (key : ℕ) (c : Classmark) (r : Reference) (f : List ℕ) → key < 8 → runFits s run 8 ≡ true
+      → e ≡ sets d 0 (head ∷ 0x31 ∷ (16 * key) ∷ 3 ∷ c .first ∷ c .second ∷ c .third ∷ run .count ∷ runOctets s run)
+      → f ≡ sets e (8 + run .count) (referenceOctets r)
+      → Writes d (bodyOctets head (immediateSetup key c (runOctets s run) r)) (ltb key 8 && runFits s run 8) (Written (12 + run .count)) f
+  unfolding bodyOctets typeOf table
+  immediate-done key c r f h g p q =
+      let l : length (runOctets s run) ≡ run .count = good s run 8 g .full in
+      let z : 0 + 16 * key ≡ 16 * key = omega arith in
+      done d (bodyOctets head (immediateSetup key c (runOctets s run) r)) _ (12 + run .count) f (simp (lt-ltb _ _ h, g))
+      (simp length-append (omega arith))
+      (rw (z, l)
+      (sets-then d e f (head ∷ 0x31 ∷ (16 * key) ∷ 3 ∷ c .first ∷ c .second ∷ c .third ∷ run .count ∷ runOctets s run) (referenceOctets r) (8 + run .count)
+      (omega arith) p q))
+
+pub get-status-bare : (d s : List ℕ) (head : ℕ) (identity : Identity) → identity ≡ Anonymous
+    → Writes d (bodyOctets head (contentOf s (GetStatus identity))) (bodyFits s (GetStatus identity)) (Written 2) (set (set d 0 head) 1 0x39)
+unfolding bodyOctets typeOf table
+get-status-bare d s head identity q = rw q (done d (head ∷ 0x39 ∷ []) true 2 (set (set d 0 head) 1 0x39) refl refl refl)
+
+pub get-status-named : (d s : List ℕ) (head : ℕ) (identity : Identity) (run : Run) (r : Wrote) (e : List ℕ) → identity ≡ Named run
+    → Writes d (bodyOctets head (contentOf s (GetStatus (Named run)))) (bodyFits s (GetStatus (Named run))) r e
+    → Writes d (bodyOctets head (contentOf s (GetStatus identity))) (bodyFits s (GetStatus identity)) r e
+get-status-named d s head identity run r e q p = rw q p
+
+pub immediate-key : (key : ℕ) (b : Bool) → 8 ≤ key → ltb key 8 && b ≡ false
+immediate-key key b h = simp (le-ltb _ _ h)
+
+pub immediate-run : (key : ℕ) (b : Bool) → b ≡ false → ltb key 8 && b ≡ false
+immediate-run key b h = simp (h, and-false)
+
+-- A half octet that is absent, and one that is there.
+pub put-none : (d : List ℕ) (at identifier : ℕ) (half : Half) → half ≡ Absent
+    → (at ≡ at + halfCount half) × (d ≡ sets d at (halfOctets identifier half))
+put-none d at identifier half e = rw e (omega arith, refl)
+
+pub put-one : (d : List ℕ) (at identifier value : ℕ) (half : Half) → half ≡ Present value
+    → (at + 1 ≡ at + halfCount half) × (set d at (16 * identifier + value) ≡ sets d at (halfOctets identifier half))
+put-one d at identifier value half e = rw e (refl, refl)
+
+pub status-done : (d s : List ℕ) (head : ℕ) (run : Run) (x y : Half) (e f g : List ℕ) (m n : ℕ) → statusFits s run x y ≡ true
+    → e ≡ sets d 0 (head ∷ 0x38 ∷ run .count ∷ runOctets s run)
+    → m ≡ 3 + run .count + halfCount x → f ≡ sets e (3 + run .count) (halfOctets 0xA x)
+    → n ≡ m + halfCount y → g ≡ sets f m (halfOctets 0xB y)
+    → Writes d (bodyOctets head (status (runOctets s run) x y)) (statusFits s run x y) (Written n) g
+unfolding bodyOctets typeOf table
+status-done d s head run x y e f g m n ok p a q b r =
+    let l : length (runOctets s run) ≡ run .count = good s run 247 (fine s run x y ok .run) .full in
+    let o : List ℕ = head ∷ 0x38 ∷ run .count ∷ runOctets s run in
+    let z : f ≡ sets d 0 (o ++ halfOctets 0xA x) = sets-then d e f o (halfOctets 0xA x) (3 + run .count) (omega arith) p q in
+    let k : length (o ++ halfOctets 0xA x) ≡ m = simp (length-append, half-count) (omega arith) in
+    let w : g ≡ sets d 0 ((o ++ halfOctets 0xA x) ++ halfOctets 0xB y) = sets-then d f g (o ++ halfOctets 0xA x) (halfOctets 0xB y) m k z r in
+    done d (bodyOctets head (status (runOctets s run) x y)) (statusFits s run x y) n g ok
+    (let t : length (runOctets s run ++ (halfOctets 0xA x ++ (halfOctets 0xB y ++ []))) ≡ run .count + (halfCount x + halfCount y) =
+    length-append (runOctets s run) _ ∙ rw (append-nil, length-append, half-count, half-count, l) in
+    let u : suc (suc (suc (length (runOctets s run ++ (halfOctets 0xA x ++ (halfOctets 0xB y ++ [])))))) ≡ n = omega arith in
+    u)
+    (rw (append-nil, l) (rw append-assoc at w))

@@ -1,0 +1,197 @@
+-- The code's tests are the table's: a message passes the kinds' tests exactly if it fits its table and its runs lie within the octets.
+use Prim.Native.Nat.{ℕ, suc, _+_, _≤_, _<_}
+use mathlib.Core.Path.{_≡_, refl, sym, ap, _∙_}
+use mathlib.Core.List.{List, [], _∷_, _++_, append-nil}
+use mathlib.Core.Bool.{Bool, true, false, cond, _&&_, and-true, and-false}
+use native.Mathlib.Omega.{arith}
+use lib.ListN.{length, length-append}
+use lib.Dec.{leb, ltb}
+use borrow.Author.Tests.{le-leb, lt-leb, leb-true, leb-false, le-ltb}
+use Rattle.octets.proofs.Stores.{part-length}
+use Rattle.element.specs.declared.Run.{Run}
+use Rattle.message.specs.declared.Reference.{Reference}
+use Rattle.message.specs.declared.Classmark.{Classmark}
+use Rattle.message.specs.declared.Identity.the-variants.{Absent as Anonymous, Present as Named}
+use Rattle.message.specs.declared.Half.{Half}
+use Rattle.message.specs.declared.Message.{Message}
+use Rattle.message.specs.declared.Message.the-variants.{
+  Connect,
+  GetStatus,
+  ImmediateSetup,
+  SetParameter,
+  Setup,
+  Status,
+  Termination,
+  TerminationReject,
+  TerminationRequest,
+}
+use Rattle.message.specs.Content.{contentOf, runOctets, referenceOctets}
+use Rattle.message.specs.Tables.{fits, table, typeOf, written, rowsFit, countFits}
+use lib.Seq.{sets}
+use Rattle.writing.specs.declared.Wrote.{Wrote}
+use Rattle.writing.specs.declared.Wrote.the-variants.{Written, ShortBuffer, OutOfRange}
+use Rattle.writing.specs.Writing.{lies, runsLie, writable, writeAnswer, writeLeaves}
+use Rattle.writing.specs.Bodies.{Writes, bodyOctets, bodyFits, runFits, halfFits, halfOctets, halfCount, statusFits}
+use Rattle.message.specs.Tables.{headOf}
+use Rattle.writing.proofs.Tests.{and-left, and-right, half-count}
+
+-- A conjunct that the one before implies says nothing.
+and-implied : (a b : Bool) → (a ≡ true → b ≡ true) → a && b ≡ a
+and-implied true b h = h refl
+and-implied false b h = refl
+
+-- Both sides of an order moved on by one.
+leb-next : (a b : ℕ) → leb (1 + a) (1 + b) ≡ leb a b
+leb-next a b = go (leb a b) refl
+  where
+    go : (t : Bool) → leb a b ≡ t → leb (1 + a) (1 + b) ≡ t
+    go true e = let h : a ≤ b = leb-true a b e in le-leb (1 + a) (1 + b) (omega arith)
+    go false e = let h : b < a = leb-false a b e in lt-leb (1 + a) (1 + b) (omega arith)
+
+leb-next2 : (a b : ℕ) → leb (2 + a) (2 + b) ≡ leb a b
+leb-next2 a b = go (leb a b) refl
+  where
+    go : (t : Bool) → leb a b ≡ t → leb (2 + a) (2 + b) ≡ t
+    go true e = let h : a ≤ b = leb-true a b e in le-leb (2 + a) (2 + b) (omega arith)
+    go false e = let h : b < a = leb-false a b e in lt-leb (2 + a) (2 + b) (omega arith)
+
+-- A run's test, where the run lies within the octets and where it does not.
+module _ (s : List ℕ) (run : Run) (most : ℕ) where
+  abbrev counts : Bool
+  counts = leb 1 (run .count) && leb (run .count) most
+
+  run-inside : lies s run ≡ true → runFits s run most ≡ counts
+  unfolding runFits
+  run-inside e = simp (e, and-true)
+
+  run-outside : lies s run ≡ false → runFits s run most ≡ false
+  unfolding runFits
+  run-outside e = simp (e, and-false)
+
+  full : lies s run ≡ true → length (runOctets s run) ≡ run .count
+  unfolding lies
+  full e = part-length s (run .start) (run .count) (leb-true _ _ e)
+
+  few : counts ≡ true → run .count ≤ most
+  few e = leb-true _ _ (and-right (leb 1 (run .count)) _ e)
+
+-- The table's column counts the length octet too, and a TLV's the identifier.
+count-lv : (p : List ℕ) (n most : ℕ) → length p ≡ n → countFits 2 (1 + most) p ≡ leb 1 n && leb n most
+count-lv p n most l = rw (l, leb-next 1 n, leb-next n most)
+
+count-tlv : (p : List ℕ) (n most : ℕ) → length p ≡ n
+    → leb 3 (2 + length p) && leb (2 + length p) (2 + most) ≡ leb 1 n && leb n most
+count-tlv p n most l = rw (l, leb-next2 1 n, leb-next2 n most)
+
+-- The whole test, from its parts.
+whole-test : (lie six rows total counts : Bool) → lie ≡ true → six ≡ true → rows ≡ counts → (counts ≡ true → total ≡ true)
+    → counts ≡ lie && (six && (rows && total))
+whole-test lie six rows total counts a b c t = rw (a, b, c) (sym (and-implied counts total t))
+
+no-test : (lie rest k : Bool) → lie ≡ false → k ≡ false → k ≡ lie && rest
+no-test lie rest k a b = rw (a, b)
+
+status-test : (c x y t : Bool) → c && x && y && t ≡ c && (x && (y && true)) && t
+status-test true true true t = refl
+status-test true true false t = refl
+status-test true false y t = refl
+status-test false x y t = refl
+
+module _ (s : List ℕ) (f : Bool) (v : ℕ) (six : v ≤ 6) where
+  -- TERMINATION and TERMINATION REJECT: a cause.
+  cause-fits : (run : Run)
+      → runFits s run 247 ≡ lies s run
+      && (leb v 6 && (countFits 2 248 (runOctets s run) && true && leb (suc (suc (suc (length (runOctets s run ++ []))))) 251))
+  cause-fits run = go (lies s run) refl
+    where
+      go : (t : Bool) → lies s run ≡ t
+          → runFits s run 247 ≡ lies s run
+          && (leb v 6 && (countFits 2 248 (runOctets s run) && true && leb (suc (suc (suc (length (runOctets s run ++ []))))) 251))
+      go false e = no-test _ _ _ e (run-outside s run 247 e)
+      go true e =
+          let l : length (runOctets s run) ≡ run .count = full s run 247 e in
+          let k : length (runOctets s run ++ []) ≡ run .count = ap length (append-nil (runOctets s run)) ∙ l in
+          run-inside s run 247 e
+          ∙ whole-test _ _ _ _ (counts s run 247) e (le-leb v 6 six) (and-true _ ∙ count-lv (runOctets s run) (run .count) 247 l)
+          (λ c. let h : run .count ≤ 247 = few s run 247 c in le-leb (suc (suc (suc (length (runOctets s run ++ []))))) 251 (omega arith))
+
+  identity-fits : (run : Run) → runFits s run 8 ≡ writable s f v (GetStatus (Named run))
+  unfolding writable fits table written typeOf
+  identity-fits run = go (lies s run) refl
+    where
+      go : (t : Bool) → lies s run ≡ t → runFits s run 8 ≡ writable s f v (GetStatus (Named run))
+      go false e = no-test _ _ _ e (run-outside s run 8 e)
+      go true e =
+          let l : length (runOctets s run) ≡ run .count = full s run 8 e in
+          let k : length (runOctets s run ++ []) ≡ run .count = ap length (append-nil (runOctets s run)) ∙ l in
+          run-inside s run 8 e
+          ∙ whole-test _ _ _ _ (counts s run 8) e (le-leb v 6 six) (and-true _ ∙ count-tlv (runOctets s run) (run .count) 8 l)
+          (λ c. let h : run .count ≤ 8 = few s run 8 c in le-leb (suc (suc (suc (suc (length (runOctets s run ++ [])))))) 251 (omega arith))
+
+  immediate-fits : (key : ℕ) (c : Classmark) (run : Run) (r : Reference)
+      → ltb key 8 && runFits s run 8 ≡ writable s f v (ImmediateSetup key c run r)
+  unfolding writable fits table written typeOf
+  immediate-fits key c run r = go (lies s run) refl
+    where
+      go : (t : Bool) → lies s run ≡ t → ltb key 8 && runFits s run 8 ≡ writable s f v (ImmediateSetup key c run r)
+      go false e = no-test _ _ _ e (ap (λ (b : Bool). ltb key 8 && b) (run-outside s run 8 e) ∙ and-false (ltb key 8))
+      go true e =
+          let l : length (runOctets s run) ≡ run .count = full s run 8 e in
+          let k : length (runOctets s run ++ referenceOctets r) ≡ run .count + 4 = length-append (runOctets s run) (referenceOctets r) ∙ ap (λ (n : ℕ). n + 4) l in
+          ap (λ (b : Bool). ltb key 8 && b) (run-inside s run 8 e)
+          ∙ whole-test _ _ _ _ (ltb key 8 && counts s run 8) e (le-leb v 6 six)
+          (ap (λ (b : Bool). ltb key 8 && b) (and-true _ ∙ count-lv (runOctets s run) (run .count) 8 l))
+          (λ q.
+          let h : run .count ≤ 8 = few s run 8 (and-right (ltb key 8) _ q) in
+          le-leb (suc (suc (suc (suc (suc (suc (suc (suc (length (runOctets s run ++ referenceOctets r)))))))))) 251 (omega arith))
+
+  status-fits : (run : Run) (x y : Half) → statusFits s run x y ≡ writable s f v (Status run x y)
+  unfolding writable fits table written typeOf statusFits
+  status-fits run x y = go (lies s run) refl
+    where
+      go : (t : Bool) → lies s run ≡ t → statusFits s run x y ≡ writable s f v (Status run x y)
+      go false e = no-test _ _ _ e (simp (run-outside s run 247 e))
+      go true e =
+          let l : length (runOctets s run) ≡ run .count = full s run 247 e in
+          let k : length (runOctets s run ++ (halfOctets 0xA x ++ (halfOctets 0xB y ++ []))) ≡ run .count + (halfCount x + halfCount y) =
+          length-append (runOctets s run) _ ∙ rw (append-nil, length-append, half-count, half-count, l) in
+          let m : 3 + run .count + halfCount x + halfCount y ≡ suc (suc (suc (length (runOctets s run ++ (halfOctets 0xA x ++ (halfOctets 0xB y ++ [])))))) = omega arith in
+          rw (run-inside s run 247 e, m, e, le-leb v 6 six, count-lv (runOctets s run) (run .count) 247 l)
+          (status-test (counts s run 247) (halfFits x) (halfFits y) _)
+
+  pub fits-same : (m : Message) → bodyFits s m ≡ writable s f v m
+  unfolding writable fits table written typeOf
+  fits-same (Connect r o) = simp (le-leb v 6 six, and-true)
+  fits-same (GetStatus Anonymous) = simp (le-leb v 6 six)
+  fits-same (GetStatus (Named run)) = identity-fits run
+  fits-same (ImmediateSetup key c run r) = immediate-fits key c run r
+  fits-same (SetParameter a) = simp (le-leb v 6 six, and-true)
+  fits-same (Setup r) = simp (le-leb v 6 six)
+  fits-same (Status run x y) = status-fits run x y
+  fits-same (Termination run) = cause-fits run
+  fits-same (TerminationReject run) = cause-fits run
+  fits-same (TerminationRequest r) = simp (le-leb v 6 six)
+
+-- What a kind's writer meets, `write` meets, where the buffer is long enough and the transaction value is at most 6.
+pub writes-whole : (d s : List ℕ) (head : ℕ) (f : Bool) (v : ℕ) (m : Message) (r : Wrote) (e : List ℕ) → 255 ≤ length d → v ≤ 6
+    → head ≡ headOf f v → Writes d (bodyOctets head (contentOf s m)) (bodyFits s m) r e
+    → (r ≡ writeAnswer d s f v m) × (e ≡ writeLeaves d s f v m)
+unfolding writeAnswer writeLeaves written bodyOctets
+writes-whole d s head f v m r e h k q p = (
+  p .answer
+      ∙ ap (λ (x : ℕ). cond (bodyFits s m) (Written (length (bodyOctets x (contentOf s m)))) OutOfRange) q
+      ∙ ap (λ (t : Bool). cond t (Written (length (written f v (contentOf s m)))) OutOfRange) (fits-same s f v k m)
+      ∙ sym (long (cond (writable s f v m) (Written (length (written f v (contentOf s m)))) OutOfRange) ShortBuffer),
+  p .after
+      ∙ ap (λ (x : ℕ). cond (bodyFits s m) (sets d 0 (bodyOctets x (contentOf s m))) d) q
+      ∙ ap (λ (t : Bool). cond t (sets d 0 (written f v (contentOf s m))) d) (fits-same s f v k m)
+      ∙ sym (long (cond (writable s f v m) (sets d 0 (written f v (contentOf s m))) d) d),
+)
+  where
+    long : {A : Type 0} (a b : A) → cond (ltb (length d) 255) b a ≡ a
+    long a b = simp (le-ltb _ _ h)
+
+-- A transaction value over 6 fits no message.
+pub value-over : (s : List ℕ) (f : Bool) (v : ℕ) (m : Message) → 6 < v → writable s f v m ≡ false
+unfolding writable fits
+value-over s f v m h = simp (lt-leb _ _ h, and-false)

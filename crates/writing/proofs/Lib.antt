@@ -1,0 +1,4 @@
+pub mod Heads
+pub mod Tests
+pub mod Bodies
+pub mod Fitting

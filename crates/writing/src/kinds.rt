@@ -1,0 +1,298 @@
+// What stands behind a message's first octet, written kind by kind. Each answers for its own fields, and writes nothing where one is out of range.
+ghost use mathlib.Core.Path.{_≡_};
+ghost use mathlib.Core.Bool.{true};
+ghost use mathlib.Core.List.{_∷_, []};
+ghost use Prim.Native.Nat.{_+_, _≤_, _<_};
+ghost use lib.ListN.{length};
+ghost use lib.Seq.{sets};
+ghost use Rattle.element.specs.declared.Run.{Run};
+ghost use Rattle.message.specs.declared.Message.{Message};
+ghost use Rattle.message.specs.Content.{contentOf, referenceOctets};
+ghost use Rattle.writing.specs.Bodies.{
+  Writes,
+  causeOctets,
+  bodyOctets,
+  bodyFits,
+  runFits,
+  halfFits,
+  halfCount,
+  halfOctets,
+  statusFits,
+};
+use crate::Wrote;
+use element::Run;
+use message::Classmark;
+use message::Half;
+use message::Identity;
+use message::Message;
+use message::Reference;
+use octets::copy_to;
+
+// Whether a run of 1 to `most` octets lies within `source`.
+fn run_fits(source: &[u8], run: Run, most: usize) -> bool
+    ensures { λ r. ⌜ r ≡ runFits (now (source .entry)) run most ⌝ }
+{
+    let start = run.start;
+    let count = run.count;
+    if count < 1 {
+        return false;
+    }
+    if most < count {
+        return false;
+    }
+    if source.len() < start {
+        return false;
+    }
+    if source.len() - start < count {
+        return false;
+    }
+    true
+}
+
+// Whether a half octet holds the value.
+fn half_fits(half: Half) -> bool
+    ensures { λ r. ⌜ r ≡ halfFits half ⌝ }
+{
+    match half {
+        Half::Absent => true,
+        Half::Present(value) => value < 16,
+    }
+}
+
+// How many octets an optional half octet takes.
+fn half_count(half: Half) -> usize
+    ensures { λ r. ⌜ r ≡ halfCount half ⌝ }
+{
+    match half {
+        Half::Absent => 0,
+        Half::Present(_) => 1,
+    }
+}
+
+// The four octets of a reference, to a place.
+fn put_reference(buffer: &mut [u8], at: usize, reference: Reference)
+    requires { ⌜ at + 4 ≤ length (now buffer) ⌝ }
+    ensures { λ _. ⌜ now (buffer .exit) ≡ sets (now (buffer .entry)) at (referenceOctets reference) ⌝ }
+{
+    buffer[at] = reference.first;
+    buffer[at + 1] = reference.second;
+    buffer[at + 2] = reference.third;
+    buffer[at + 3] = reference.fourth;
+}
+
+// An optional half octet behind its identifier, to a place; answers the place behind it.
+fn put_half(buffer: &mut [u8], at: usize, identifier: u8, half: Half) -> usize
+    requires { ⌜ (at < length (now buffer)) × (identifier < 16) × (halfFits half ≡ true) ⌝ }
+    ensures { λ r. ⌜ (r ≡ at + halfCount half) × (now (buffer .exit) ≡ sets (now (buffer .entry)) at (halfOctets identifier half)) ⌝ }
+{
+    match half {
+        Half::Absent => at,
+        Half::Present(value) => {
+            buffer[at] = 16 * identifier + value;
+            at + 1
+        }
+    }
+}
+
+// Table 8.1.
+fn write_connect(buffer: &mut [u8], head: u8, reference: Reference, originator: u8) -> Wrote
+    requires { ⌜ 255 ≤ length (now buffer) ⌝ }
+    ensures { λ r. ⌜ Writes (now (buffer .entry)) (bodyOctets head (contentOf [] (Message.Connect reference originator))) (bodyFits [] (Message.Connect reference originator)) r (now (buffer .exit)) ⌝ }
+{
+    if 2 <= originator {
+        return Wrote::OutOfRange;
+    }
+    buffer[0] = head;
+    buffer[1] = 0x33;
+    buffer[2] = reference.first;
+    buffer[3] = reference.second;
+    buffer[4] = reference.third;
+    buffer[5] = reference.fourth;
+    buffer[6] = originator;
+    Wrote::Written(7)
+}
+
+// Table 8.2.
+fn write_get_status(buffer: &mut [u8], source: &[u8], head: u8, identity: Identity) -> Wrote
+    requires { ⌜ 255 ≤ length (now buffer) ⌝ }
+    ensures { λ r. ⌜ Writes (now (buffer .entry)) (bodyOctets head (contentOf (now (source .entry)) (Message.GetStatus identity))) (bodyFits (now (source .entry)) (Message.GetStatus identity)) r (now (buffer .exit)) ⌝ }
+{
+    match identity {
+        Identity::Absent => {
+            buffer[0] = head;
+            buffer[1] = 0x39;
+            Wrote::Written(2)
+        }
+        Identity::Present(run) => write_identified(buffer, source, head, run),
+    }
+}
+
+// Table 8.2 with a mobile identity.
+fn write_identified(buffer: &mut [u8], source: &[u8], head: u8, identity: Run) -> Wrote
+    requires { ⌜ 255 ≤ length (now buffer) ⌝ }
+    ensures { λ r. ⌜ Writes (now (buffer .entry)) (bodyOctets head (contentOf (now (source .entry)) (Message.GetStatus (Identity.Present identity)))) (bodyFits (now (source .entry)) (Message.GetStatus (Identity.Present identity))) r (now (buffer .exit)) ⌝ }
+{
+    if !run_fits(source, identity, 8) {
+        return Wrote::OutOfRange;
+    }
+    let start = identity.start;
+    let count = identity.count;
+    buffer[0] = head;
+    buffer[1] = 0x39;
+    buffer[2] = 0x17;
+    buffer[3] = count as u8;
+    copy_to(buffer, 4, source, start, count);
+    Wrote::Written(4 + count)
+}
+
+// Table 8.3.
+fn write_immediate_setup(
+    buffer: &mut [u8],
+    source: &[u8],
+    head: u8,
+    key: u8,
+    classmark: Classmark,
+    identity: Run,
+    reference: Reference,
+) -> Wrote
+    requires { ⌜ 255 ≤ length (now buffer) ⌝ }
+    ensures { λ r. ⌜ Writes (now (buffer .entry)) (bodyOctets head (contentOf (now (source .entry)) (Message.ImmediateSetup key classmark identity reference))) (bodyFits (now (source .entry)) (Message.ImmediateSetup key classmark identity reference)) r (now (buffer .exit)) ⌝ }
+{
+    if 8 <= key {
+        return Wrote::OutOfRange;
+    }
+    if !run_fits(source, identity, 8) {
+        return Wrote::OutOfRange;
+    }
+    let start = identity.start;
+    let count = identity.count;
+    buffer[0] = head;
+    buffer[1] = 0x31;
+    buffer[2] = 16 * key;
+    buffer[3] = 3;
+    buffer[4] = classmark.first;
+    buffer[5] = classmark.second;
+    buffer[6] = classmark.third;
+    buffer[7] = count as u8;
+    copy_to(buffer, 8, source, start, count);
+    put_reference(buffer, 8 + count, reference);
+    Wrote::Written(12 + count)
+}
+
+// Table 8.4.
+fn write_set_parameter(buffer: &mut [u8], head: u8, attributes: u8) -> Wrote
+    requires { ⌜ 255 ≤ length (now buffer) ⌝ }
+    ensures { λ r. ⌜ Writes (now (buffer .entry)) (bodyOctets head (contentOf [] (Message.SetParameter attributes))) (bodyFits [] (Message.SetParameter attributes)) r (now (buffer .exit)) ⌝ }
+{
+    if 16 <= attributes {
+        return Wrote::OutOfRange;
+    }
+    buffer[0] = head;
+    buffer[1] = 0x3a;
+    buffer[2] = attributes;
+    Wrote::Written(3)
+}
+
+// Tables 8.5 and 8.9: a type and a reference.
+fn write_reference(buffer: &mut [u8], head: u8, kind: u8, reference: Reference) -> Wrote
+    requires { ⌜ 255 ≤ length (now buffer) ⌝ }
+    ensures { λ r. ⌜ Writes (now (buffer .entry)) (head ∷ kind ∷ referenceOctets reference) true r (now (buffer .exit)) ⌝ }
+{
+    buffer[0] = head;
+    buffer[1] = kind;
+    buffer[2] = reference.first;
+    buffer[3] = reference.second;
+    buffer[4] = reference.third;
+    buffer[5] = reference.fourth;
+    Wrote::Written(6)
+}
+
+// Tables 8.7 and 8.8: a type and a cause.
+fn write_cause(buffer: &mut [u8], source: &[u8], head: u8, kind: u8, cause: Run) -> Wrote
+    requires { ⌜ 255 ≤ length (now buffer) ⌝ }
+    ensures { λ r. ⌜ Writes (now (buffer .entry)) (head ∷ kind ∷ causeOctets (now (source .entry)) cause) (runFits (now (source .entry)) cause 247) r (now (buffer .exit)) ⌝ }
+{
+    if !run_fits(source, cause, 247) {
+        return Wrote::OutOfRange;
+    }
+    let start = cause.start;
+    let count = cause.count;
+    buffer[0] = head;
+    buffer[1] = kind;
+    buffer[2] = count as u8;
+    copy_to(buffer, 3, source, start, count);
+    Wrote::Written(3 + count)
+}
+
+// Whether a STATUS fits: its fields, and at most 251 octets in all.
+fn status_fits(source: &[u8], cause: Run, state: Half, attributes: Half) -> bool
+    ensures { λ r. ⌜ r ≡ statusFits (now (source .entry)) cause state attributes ⌝ }
+{
+    if !run_fits(source, cause, 247) {
+        return false;
+    }
+    if !half_fits(state) {
+        return false;
+    }
+    if !half_fits(attributes) {
+        return false;
+    }
+    let count = cause.count;
+    3 + count + half_count(state) + half_count(attributes) <= 251
+}
+
+// Table 8.6.
+fn write_status(
+    buffer: &mut [u8],
+    source: &[u8],
+    head: u8,
+    cause: Run,
+    state: Half,
+    attributes: Half,
+) -> Wrote
+    requires { ⌜ 255 ≤ length (now buffer) ⌝ }
+    ensures { λ r. ⌜ Writes (now (buffer .entry)) (bodyOctets head (contentOf (now (source .entry)) (Message.Status cause state attributes))) (bodyFits (now (source .entry)) (Message.Status cause state attributes)) r (now (buffer .exit)) ⌝ }
+{
+    if !status_fits(source, cause, state, attributes) {
+        return Wrote::OutOfRange;
+    }
+    let start = cause.start;
+    let count = cause.count;
+    buffer[0] = head;
+    buffer[1] = 0x38;
+    buffer[2] = count as u8;
+    copy_to(buffer, 3, source, start, count);
+    let place = put_half(buffer, 3 + count, 0xa, state);
+    let end = put_half(buffer, place, 0xb, attributes);
+    Wrote::Written(end)
+}
+
+// The message behind its first octet, which is `head`.
+pub(crate) fn write_body(buffer: &mut [u8], source: &[u8], head: u8, message: Message) -> Wrote
+    requires { ⌜ 255 ≤ length (now buffer) ⌝ }
+    ensures { λ r. ⌜ Writes (now (buffer .entry)) (bodyOctets head (contentOf (now (source .entry)) message)) (bodyFits (now (source .entry)) message) r (now (buffer .exit)) ⌝ }
+{
+    match message {
+        Message::Connect {
+            reference,
+            originator,
+        } => write_connect(buffer, head, reference, originator),
+        Message::GetStatus { identity } => write_get_status(buffer, source, head, identity),
+        Message::ImmediateSetup {
+            key,
+            classmark,
+            identity,
+            reference,
+        } => write_immediate_setup(buffer, source, head, key, classmark, identity, reference),
+        Message::SetParameter { attributes } => write_set_parameter(buffer, head, attributes),
+        Message::Setup { reference } => write_reference(buffer, head, 0x32, reference),
+        Message::Status {
+            cause,
+            state,
+            attributes,
+        } => write_status(buffer, source, head, cause, state, attributes),
+        Message::Termination { cause } => write_cause(buffer, source, head, 0x34, cause),
+        Message::TerminationReject { cause } => write_cause(buffer, source, head, 0x36, cause),
+        Message::TerminationRequest { reference } => write_reference(buffer, head, 0x35, reference),
+    }
+}
