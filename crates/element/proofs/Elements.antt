@@ -1,6 +1,6 @@
 -- Laws of optional elements: of one step from element to element, and of the search among them.
 use Prim.Native.Nat.{ℕ, zero, suc, _+_, _-_, _≤_, _<_}
-use mathlib.Core.Path.{_≡_, refl, subst}
+use mathlib.Core.Path.{_≡_, refl, sym, ap, subst, _∙_}
 use mathlib.Core.List.{List}
 use mathlib.Core.Bool.{Bool, true, false, cond, _&&_, and-false}
 use native.Mathlib.Omega.{arith}
@@ -96,6 +96,49 @@ seek-on s low high i j r h w n p = go (p .most) (p .enough) (p .same)
 pub seeks : (s : List ℕ) (low high at : ℕ) → Seeks s low high at (elementFrom s at low high)
 unfolding elementFrom
 seeks s low high at = record { most = length s; enough = omega arith; same = refl }
+
+-- Any number of elements that is enough gives the same answer.
+among-same : (k l : ℕ) (s : List ℕ) (low high i : ℕ) → length s ≤ i + k → length s ≤ i + l
+    → elementAmong k s i low high ≡ elementAmong l s i low high
+unfolding elementAmong
+among-same zero l s low high i h g = sym (seek-end s low high i l (omega arith))
+among-same (suc k) zero s low high i h g = seek-end s low high i (suc k) (omega arith)
+among-same (suc k) (suc l) s low high i h g =
+    ap (λ (f : Found). cond (leb (length s) i) Nothing (cond (within (getD s i 0) low high) (FoundAt i (getD s i 0)) f))
+    (on (nextElement s i) refl (λ j a b. among-same k l s low high j a b))
+  where
+    on : (n : Next) → nextElement s i ≡ n
+        → ((j : ℕ) → length s ≤ j + k → length s ≤ j + l → elementAmong k s j low high ≡ elementAmong l s j low high)
+        → onward (λ j. elementAmong k s j low high) n ≡ onward (λ j. elementAmong l s j low high) n
+    on PastEnd e ih = refl
+    on (At j) e ih = let f : i < j = next-further s i j e in ih j (omega arith) (omega arith)
+
+-- The search from a place: past the end, at an element that is meant, and at one that is not.
+module _ (s : List ℕ) (low high i : ℕ) where
+  pub from-end : length s ≤ i → elementFrom s i low high ≡ Nothing
+  unfolding elementFrom
+  from-end h = seek-end s low high i (length s) h
+
+  pub from-here : i < length s → within (getD s i 0) low high ≡ true → elementFrom s i low high ≡ FoundAt i (getD s i 0)
+  unfolding elementFrom
+  from-here h w = seek-here s low high i (length s) h (omega arith) w
+
+  pub from-next : (j : ℕ) → i < length s → within (getD s i 0) low high ≡ false → nextElement s i ≡ At j
+      → elementFrom s i low high ≡ elementFrom s j low high
+  unfolding elementFrom
+  from-next j h w n =
+      let p : Seeks s low high j (elementFrom s i low high) = seek-on s low high i j _ h w n (seeks s low high i) in
+      let q : length s ≤ j + p .most = p .enough in
+      sym (p .same) ∙ among-same (p .most) (length s) s low high j q (omega arith)
+
+  -- An element of one octet.
+  pub from-octet : i < length s → within (getD s i 0) low high ≡ false → 128 ≤ getD s i 0
+      → elementFrom s i low high ≡ elementFrom s (i + 1) low high
+  unfolding nextElement
+  from-octet h w k = from-next (i + 1) h w one
+    where
+      one : nextElement s i ≡ At (i + 1)
+      one = simp (le-leb _ _ k)
 
 -- What is found stands from `at` on, below the end, and is what was looked for.
 pub record Stands (s : List ℕ) (at low high p x : ℕ) : Type 0 where

@@ -18,7 +18,7 @@ pub enum Found {
 }
 
 // Where the element behind another starts.
-enum Next {
+pub enum Next {
     At(usize),
     PastEnd,
 }

@@ -1,0 +1,37 @@
+-- What it means that octets give a message back.
+use Prim.Native.Nat.{ℕ}
+use mathlib.Core.Path.{_≡_}
+use mathlib.Core.List.{List}
+use mathlib.Core.Bool.{Bool}
+use lib.ListN.{take, drop}
+use Rattle.message.specs.declared.Reading.{Reading}
+use Rattle.message.specs.declared.Reading.the-variants.{Is, Unreadable, TooLong}
+use Rattle.message.specs.Content.{Content, contentOf}
+use Rattle.message.specs.declared.Message.{Message}
+use Rattle.message.specs.Tables.{written}
+use Rattle.message.specs.Reading.{readMessage}
+use Rattle.writing.specs.declared.Wrote.{Wrote}
+use Rattle.writing.specs.declared.Wrote.the-variants.{Written, ShortBuffer, OutOfRange}
+
+-- A reading of the octets `s` says this flag, this transaction value and this content: runs are compared as octets.
+abbrev pub Says : List ℕ → Bool → ℕ → Content → Reading → Type 0
+Says s flag value content (Is f v message) = (f ≡ flag) × (v ≡ value) × (contentOf s message ≡ content)
+Says s flag value content (Unreadable fault) = ⊥
+Says s flag value content TooLong = ⊥
+
+-- Reading `s` gives these back.
+abbrev pub GivesBack : List ℕ → Bool → ℕ → Content → Type 0
+GivesBack s flag value content = Says s flag value content (readMessage s)
+
+-- A message whose runs lie in `s` stands in the buffer, which held `d` and now holds `e`: over its start are the `n` octets of the table, they give the
+-- message back, and each octet behind them is as it was.
+pub record Stood (d s : List ℕ) (flag : Bool) (value : ℕ) (message : Message) (e : List ℕ) (n : ℕ) : Type 0 where
+  pub octets : take n e ≡ written flag value (contentOf s message)
+  pub behind : drop n e ≡ drop n d
+  pub back : GivesBack (written flag value (contentOf s message)) flag value (contentOf s message)
+
+-- What an answer of `write` tells of the buffer.
+abbrev pub Told : List ℕ → List ℕ → Bool → ℕ → Message → List ℕ → Wrote → Type 0
+Told d s flag value message e (Written n) = Stood d s flag value message e n
+Told d s flag value message e ShortBuffer = e ≡ d
+Told d s flag value message e OutOfRange = e ≡ d
