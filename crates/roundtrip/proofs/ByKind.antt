@@ -148,7 +148,7 @@ immediate-back h k z c i r a e l b =
     let t : length (i ++ referenceOctets r) ≡ length i + 4 = length-append i (referenceOctets r) in
     let q : z / 16 % 8 ≡ k = omega arith in
     let x : referenceAt s (8 + length i) ≡ r =
-        reference-back (h ∷ 0x31 ∷ z ∷ 3 ∷ c .first ∷ c .second ∷ c .third ∷ length i ∷ i) r (8 + length i) (omega arith) in
+    reference-back (h ∷ 0x31 ∷ z ∷ 3 ∷ c .first ∷ c .second ∷ c .third ∷ length i ∷ i) r (8 + length i) (omega arith) in
     rw (counted-is s 3 3 3 3 refl (omega arith) (omega arith) (omega arith), counted-is s 7 1 8 (length i) refl l b (omega arith))
     (rw (q, x) (whole-end s (8 + length i + 4) (ImmediateSetup k c (run 8 (length i)) r) (omega arith)))
 
@@ -168,8 +168,8 @@ module _ (h : ℕ) (i : List ℕ) (l : 1 ≤ length i) (k : length i ≤ 8) wher
   unfolding bodyOf getStatusOf identityBehind
   identified-back =
       let calm : elementFrom identified 2 0 15 ≡ Nothing =
-          from-next identified 0 15 2 (4 + length i) (omega arith) (within-over 0x17 0 15 (omega arith)) onto
-          ∙ from-end identified 0 15 (4 + length i) (omega arith) in
+      from-next identified 0 15 2 (4 + length i) (omega arith) (within-over 0x17 0 15 (omega arith)) onto
+      ∙ from-end identified 0 15 (4 + length i) (omega arith) in
       rw (
         from-here identified 0x17 0x17 2 (omega arith) (within-inside 0x17 0x17 0x17 (omega arith) (omega arith)),
         counted-is identified 3 1 8 (length i) refl l k (omega arith),

@@ -1,3 +1,4 @@
 pub mod Drawn
 pub mod ByKind
 pub mod RoundTrip
+pub mod Again

@@ -92,7 +92,7 @@ module _ (f : Bool) (v kind : ℕ) (x : List ℕ) (c : Content) (m : Message) (s
       let s : List ℕ = headOf f v ∷ kind ∷ x in
       let q : kind % 64 ≡ kind = omega arith in
       let r : readMessage s ≡ Reads f v m =
-          sym (head-good s (Is m) few (omega arith) (head-low f v) (omega arith) (rw q e)) ∙ rw (head-flag f v six, head-value f v six) in
+      sym (head-good s (Is m) few (omega arith) (head-low f v) (omega arith) (rw q e)) ∙ rw (head-flag f v six, head-value f v six) in
       subst (Says s f v c) (sym r) (refl, refl, same)
 
 -- The octets of a message, with the empty end of its last row left out.
