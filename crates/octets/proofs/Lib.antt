@@ -1,3 +1,4 @@
 pub mod Choice
+pub mod Coincide
 pub mod Rows
 pub mod Stores

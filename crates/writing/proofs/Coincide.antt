@@ -1,0 +1,16 @@
+-- Any two outcomes that a public contract of this crate allows coincide.
+use Prim.Native.Nat.{ℕ}
+use mathlib.Core.Path.{_≡_}
+use mathlib.Core.List.{List}
+use mathlib.Core.Bool.{Bool}
+use Rattle.octets.proofs.Coincide.{coincide}
+use Rattle.message.specs.declared.Message.{Message}
+use Rattle.writing.specs.declared.Wrote.{Wrote}
+use Rattle.writing.specs.Writing.{writeAnswer, writeLeaves}
+
+-- What `write` answers, and every octet of the lent buffer.
+pub write-coincides : (d s : List ℕ) (flag : Bool) (value : ℕ) (message : Message) (a b : Wrote) (e f : List ℕ)
+    → a ≡ writeAnswer d s flag value message → b ≡ writeAnswer d s flag value message
+    → e ≡ writeLeaves d s flag value message → f ≡ writeLeaves d s flag value message → (a ≡ b) × (e ≡ f)
+write-coincides d s flag value message a b e f p q r t =
+    (coincide (writeAnswer d s flag value message) a b p q, coincide (writeLeaves d s flag value message) e f r t)
