@@ -1,0 +1,153 @@
+//! Logs by chance: a true run, then in part damaged in one place.
+
+use super::random::Random;
+use super::step::own;
+use super::walk::Walk;
+use crate::log::entry::Entry;
+use crate::log::number;
+
+/// The bytes of a log with these entries.
+pub fn bytes(entries: &[Entry]) -> Vec<u8> {
+    let mut log = vec![1];
+    for entry in entries {
+        entry.push(&mut log);
+    }
+    log
+}
+
+/// A true run under one timer, sometimes of several calls.
+pub fn true_run(random: &mut Random) -> Walk {
+    let identity = own(random, u64::MAX);
+    let conn_req = conn_req(random);
+    let mut walk = Walk::begin(identity, conn_req);
+    let count = random.pick(&[0, 1, 2, 4, 6, 8, 10, 14, 20, 30]);
+    walk.go(random, count);
+    walk
+}
+
+pub fn conn_req(random: &mut Random) -> u64 {
+    match random.below(4) {
+        0 => 10_000,
+        1 => 30_000,
+        2 => random.pick(&[10_001, 12_000, 20_000, 29_999]),
+        _ => random.between(10_000, 30_000),
+    }
+}
+
+/// The run's log with one thing wrong, which now and then changes nothing.
+pub fn damaged(random: &mut Random, mut walk: Walk) -> (Walk, Vec<u8>) {
+    let mut log = Vec::new();
+    match random.below(10) {
+        0 | 1 => claim(random, &mut walk.entries),
+        2 | 3 => time(random, &mut walk.entries),
+        4 => order(random, &mut walk.entries),
+        5 => another_timer(random, &mut walk),
+        6 => log = longer_number(random, &walk.entries),
+        7 => {
+            log = bytes(&walk.entries);
+            let count = random.length(1, 4);
+            log.extend(random.octets(count));
+        }
+        8 => {
+            log = bytes(&walk.entries);
+            let length = random.length(0, log.len());
+            log.truncate(length);
+        }
+        _ => {
+            log = bytes(&walk.entries);
+            let place = random.place(log.len());
+            log[place] = match random.one_in(2) {
+                true => log[place] ^ 1 << random.below(8),
+                false => random.octet(),
+            };
+        }
+    }
+    if log.is_empty() {
+        log = bytes(&walk.entries);
+    }
+    (walk, log)
+}
+
+fn claim(random: &mut Random, entries: &mut [Entry]) {
+    if entries.is_empty() {
+        return;
+    }
+    let entry = &mut entries[random.place(entries.len())];
+    match random.below(8) {
+        0 => entry.answer = random.between(0, 4) as u32,
+        1 => entry.state = random.between(0, 8) as u32,
+        2 => entry.parameters = random.between(0, 16) as u32,
+        3 => entry.actions = random.pick(&[0, 1, 2, 4, 8, 9, 16, 17, 32, 63, 64]),
+        4 => entry.reply.push(0),
+        5 => entry.reply = vec![0x51; random.pick(&[1, 255, 256])],
+        6 => {
+            entry.reply.pop();
+        }
+        _ => entry.event.number = random.between(0, 19) as u32,
+    }
+}
+
+/// One millisecond more or less, mostly at an expiry.
+fn time(random: &mut Random, entries: &mut [Entry]) {
+    if entries.is_empty() {
+        return;
+    }
+    let expiries: Vec<usize> = (0..entries.len())
+        .filter(|&place| (14..=17).contains(&entries[place].event.number))
+        .collect();
+    let place = match expiries.is_empty() || random.one_in(3) {
+        true => random.place(entries.len()),
+        false => random.pick(&expiries),
+    };
+    let delta = &mut entries[place].delta;
+    *delta = match random.below(5) {
+        0 | 1 => *delta + 1,
+        2 | 3 => delta.saturating_sub(1),
+        _ => random.pick(&[3_001, 5_001, 10_001, 30_001, 86_400_000, 86_400_001]),
+    };
+}
+
+/// An entry left out, doubled, or changed about with its neighbour.
+fn order(random: &mut Random, entries: &mut Vec<Entry>) {
+    if entries.is_empty() {
+        return;
+    }
+    let place = random.place(entries.len());
+    match random.below(3) {
+        0 => {
+            entries.remove(place);
+        }
+        1 => entries.insert(place, entries[place].clone()),
+        _ => entries.swap(0, place),
+    }
+}
+
+/// The run goes on with another T_conn req, as no true log does.
+fn another_timer(random: &mut Random, walk: &mut Walk) {
+    walk.go_home(random);
+    walk.conn_req = conn_req(random);
+    let count = random.length(4, 12);
+    walk.go(random, count);
+}
+
+/// One entry's time, or the version, written a byte longer than it needs.
+fn longer_number(random: &mut Random, entries: &[Entry]) -> Vec<u8> {
+    let chosen = random.place(entries.len() + 1);
+    let mut log = bytes(&entries[..chosen]);
+    if chosen == entries.len() {
+        log[0] |= 0x80;
+        log.insert(1, 0);
+        return log;
+    }
+    let mut longer = Vec::new();
+    number::push(&mut longer, entries[chosen].delta);
+    let length = longer.len();
+    let mut rest = Vec::new();
+    entries[chosen].push(&mut rest);
+    longer[length - 1] |= 0x80;
+    longer.push(0);
+    log.extend(longer);
+    log.extend(&rest[length..]);
+    log.extend(&bytes(&entries[chosen + 1..])[1..]);
+    log
+}

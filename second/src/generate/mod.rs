@@ -1,0 +1,53 @@
+//! Commands made by chance from a seed: the same seed gives the same commands.
+//! They lean towards the places where document 01 draws a line.
+
+pub mod elements;
+pub mod judge;
+pub mod log;
+pub mod malformed;
+pub mod messages;
+pub mod random;
+pub mod record;
+pub mod settings;
+pub mod step;
+pub mod walk;
+pub mod write;
+
+use crate::commands;
+use crate::probe::WORDS;
+use random::Random;
+use std::io::{self, Write};
+
+/// One line in so many is malformed.
+const MALFORMED_SHARE: u64 = 200;
+/// One log or buffer in so many is about 65,536 bytes long.
+const LONG_SHARE: u64 = 2_200;
+
+/// Prints so many commands of these words, of all six if there are none.
+pub fn run(seed: u64, count: u64, words: &[&str], output: &mut dyn Write) -> io::Result<()> {
+    let words = if words.is_empty() { &WORDS } else { words };
+    let mut random = Random::from_seed(seed);
+    for _ in 0..count {
+        let line = command(&mut random, words);
+        output.write_all(&line)?;
+        output.write_all(b"\n")?;
+    }
+    Ok(())
+}
+
+fn command(random: &mut Random, words: &[&str]) -> Vec<u8> {
+    let word = random.pick(words);
+    let long = random.one_in(LONG_SHARE);
+    let line = match word {
+        "read" => commands::read(&messages::to_read(random)),
+        "write" => write::command(random),
+        "step" => step::command(random),
+        "settings" => commands::settings(&settings::file(random)),
+        "judge" => judge::command(random, long),
+        _ => record::command(random, long),
+    };
+    if random.one_in(MALFORMED_SHARE) {
+        return malformed::spoil(random, line);
+    }
+    line.into_bytes()
+}

@@ -1,0 +1,154 @@
+//! `step` by chance: fit and unfit contexts, all events, and messages that
+//! concern the call or not.
+
+use super::messages;
+use super::random::Random;
+use super::walk::likely_event;
+use super::write::buffer_length;
+use crate::commands::{Identity, Step};
+use crate::context::Context;
+use crate::event::Event;
+use crate::state::{Parameters, STATES};
+use crate::timer::RunningTimers;
+
+pub fn command(random: &mut Random) -> String {
+    let own = own(random, 12);
+    let context = fit_context(random);
+    let event = event(random, &context, &own);
+    let mut step = Step::from(&context, &own, &event);
+    step.buffer_length = buffer_length(random);
+    if random.one_in(10) {
+        unfit(random, &mut step);
+    }
+    step.to_string()
+}
+
+/// Identity settings, out of range once in `share`.
+pub fn own(random: &mut Random, share: u64) -> Identity {
+    let in_range = !random.one_in(share);
+    let length = match in_range {
+        true => random.pick(&[1, 2, 2, 2, 5, 7, 8]),
+        false => random.pick(&[0, 9, 1, 20]),
+    };
+    let key_number = match in_range {
+        true => random.octet() & 7,
+        false => random.pick(&[0, 7, 8, 255]),
+    };
+    let identity = match random.one_in(3) {
+        true => vec![0x29; length],
+        false => random.octets(length),
+    };
+    let classmark = [random.octet(), random.octet(), random.octet()];
+    Identity {
+        key_number,
+        classmark,
+        identity,
+    }
+}
+
+/// A fit context of any state; start rows stand out among the parameters.
+pub fn fit_context(random: &mut Random) -> Context {
+    let state = random.pick(&STATES);
+    loop {
+        let mut parameters = state.start_row();
+        if random.one_in(3) {
+            parameters = Parameters::from_number(random.octet() & 15);
+        }
+        // Every state has a fit set among no timer and each single one.
+        let timers = RunningTimers::from_number(random.pick(&[0, 1, 2, 4, 8]));
+        let mut context = Context {
+            state,
+            parameters,
+            timers,
+            transaction_value: random.below(7) as u8,
+            reference: random.reference(),
+        };
+        if state.number() == 0 {
+            context = Context::cleared();
+        }
+        if context.is_fit() {
+            return context;
+        }
+    }
+}
+
+fn event(random: &mut Random, context: &Context, own: &Identity) -> Event {
+    match random.below(12) {
+        0..=3 => likely_event(random, context, &own.identity),
+        4 => Event {
+            number: random.pick(&[0, 18, 19, 20, 255, 256, 65_536, 4_294_967_295]),
+            ..filled(random)
+        },
+        5..=6 => Event {
+            number: random.between(1, 17) as u32,
+            ..filled(random)
+        },
+        _ => Event {
+            number: 18,
+            mode: mode(random),
+            octets: message(random, context, &own.identity),
+            ..filled(random)
+        },
+    }
+}
+
+/// Every field filled, those too that the event does not carry.
+fn filled(random: &mut Random) -> Event {
+    Event {
+        number: 0,
+        transaction_value: random.pick(&[0, 1, 2, 3, 4, 5, 6, 6, 7, 8, 255]),
+        reference: random.reference(),
+        mode: mode(random),
+        octets: match random.below(20) {
+            0 => random.octets(251),
+            1 => random.octets(252),
+            2 | 3 => random.octets(4),
+            _ => Vec::new(),
+        },
+    }
+}
+
+/// Acknowledged or not, now and then neither.
+fn mode(random: &mut Random) -> u32 {
+    match random.below(20) {
+        0 => random.pick(&[2, 255]),
+        _ => random.below(2) as u32,
+    }
+}
+
+/// Mostly for this call; the flag or the value of another one now and then.
+fn message(random: &mut Random, context: &Context, own: &[u8]) -> Vec<u8> {
+    let mut flag = context.state.received_flag().unwrap_or(random.octet() & 1);
+    let mut value = context.transaction_value;
+    match random.below(12) {
+        0 => flag = 1 - flag,
+        1 => value = random.octet() & 7,
+        _ => (),
+    }
+    let kind = messages::likely_kind(random, context.state);
+    let mut octets = messages::any(random, kind, flag, value, own);
+    if random.one_in(12) {
+        let length = random.pick(&[244, 245, 246, 247, 250, 251, 252, 252, 253]);
+        messages::fill(random, &mut octets, length);
+    }
+    if random.one_in(30) && !octets.is_empty() {
+        octets[0] = random.octet();
+    }
+    octets
+}
+
+fn unfit(random: &mut Random, step: &mut Step) {
+    match random.below(7) {
+        0 => step.parameters = random.octet() & 15,
+        1 => step.timers = random.octet() & 15,
+        2 => step.transaction_value = random.pick(&[6, 7, 8, 255]),
+        3 => step.state = random.pick(&[7, 8, 9, 255]),
+        4 => step.state = random.octet() & 7,
+        5 => step.reference = random.reference(),
+        _ => {
+            step.parameters = random.octet() & 15;
+            step.timers = random.octet() & 15;
+            step.state = random.octet() & 15;
+        }
+    }
+}

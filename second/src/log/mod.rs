@@ -1,0 +1,12 @@
+//! The log: its numbers, its entries, the judge and the recorder (document 01,
+//! "The log").
+
+pub mod entry;
+pub mod judge;
+pub mod number;
+pub mod record;
+
+/// The number that begins a log.
+pub const VERSION: u32 = 1;
+/// The most bytes that a log may have.
+pub const LONGEST_LOG: usize = 65_536;

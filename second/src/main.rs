@@ -1,0 +1,66 @@
+//! The second program: document 01 and the standard (GSM 04.69, 7.2.0) written
+//! down once more, so that another program can be compared with it command by
+//! command. This file has the subcommands alone.
+
+mod answer;
+mod commands;
+mod context;
+mod event;
+mod generate;
+mod log;
+mod message;
+mod own;
+mod probe;
+mod settings;
+mod state;
+mod step;
+mod timer;
+mod vectors;
+
+#[cfg(test)]
+mod tests;
+
+use std::io::{self, BufReader, BufWriter, Write};
+use std::process::ExitCode;
+
+const USAGE: &str = "\
+usage: second probe
+           answers the commands on standard input, a line each
+       second generate SEED COUNT [WORD..]
+           prints COUNT commands, the same ones for the same SEED; with words, only those
+       second vectors WORD
+           prints the fixed set of commands for one word
+       second --help
+words: read write step settings judge record
+";
+
+fn main() -> ExitCode {
+    let arguments: Vec<String> = std::env::args().skip(1).collect();
+    let words: Vec<&str> = arguments.iter().map(String::as_str).collect();
+    let mut output = BufWriter::with_capacity(1 << 16, io::stdout().lock());
+    let done = match words.as_slice() {
+        ["probe"] => {
+            let mut input = BufReader::with_capacity(1 << 16, io::stdin().lock());
+            probe::run(&mut input, &mut output)
+        }
+        ["generate", seed, count, chosen @ ..] => match (seed.parse(), count.parse()) {
+            (Ok(seed), Ok(count)) if chosen.iter().all(|word| probe::WORDS.contains(word)) => {
+                generate::run(seed, count, chosen, &mut output)
+            }
+            _ => return usage_error(),
+        },
+        ["vectors", word] if probe::WORDS.contains(word) => vectors::run(word, &mut output),
+        ["--help"] => output.write_all(USAGE.as_bytes()),
+        _ => return usage_error(),
+    };
+    // A reader that has gone away is no fault of the commands.
+    match done.and_then(|()| output.flush()) {
+        Ok(()) => ExitCode::SUCCESS,
+        Err(_) => ExitCode::FAILURE,
+    }
+}
+
+fn usage_error() -> ExitCode {
+    eprint!("second: what is asked for is not one of these\n{USAGE}");
+    ExitCode::from(2)
+}

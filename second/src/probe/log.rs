@@ -1,0 +1,62 @@
+//! The commands `judge` and `record`.
+
+use super::step::event_of;
+use super::tokens::*;
+use crate::answer::*;
+use crate::log::entry::Entry;
+use crate::log::judge::{judge as judge_log, Judgement};
+use crate::log::record::record as record_entry;
+use crate::own::Own;
+
+/// `judge CKSN CLASSMARK IDENTITY LOG`
+pub fn judge(fields: &[&[u8]]) -> Option<String> {
+    let [key_number, classmark, identity, log] = fields else {
+        return None;
+    };
+    let identity = octets(identity)?;
+    let own = Own {
+        key_number: small(key_number, 255)?,
+        classmark: exactly(classmark)?,
+        identity: &identity,
+    };
+    Some(match judge_log(&own, &octets(log)?) {
+        Judgement::TooLong => LOG_LONG.to_string(),
+        Judgement::OutsideRange => OUTSIDE_RANGE.to_string(),
+        Judgement::Unreadable(entry) => format!("{LOG_UNREADABLE} {entry}"),
+        Judgement::Unexplained(entry) => format!("{ENTRY_UNEXPLAINED} {entry}"),
+        Judgement::Accepted {
+            count,
+            least,
+            greatest,
+        } => format!("{TAKEN} {count} {least} {greatest}"),
+    })
+}
+
+/// `record BUF USED DELTA EVENT ETV EREF MODE OCTETS ANSWER STATE PARAMS ACTIONS REPLY`
+pub fn record(fields: &[&[u8]]) -> Option<String> {
+    let [buffer, used, delta, event, value, reference, mode, received, claims @ ..] = fields else {
+        return None;
+    };
+    let [answer, state, parameters, actions, reply] = claims else {
+        return None;
+    };
+    let mut buffer = octets(buffer)?;
+    let used = number(used, u32::MAX)?;
+    let entry = Entry {
+        delta: number(delta, u32::MAX)?,
+        event: event_of(
+            &[event, value, reference, mode, received],
+            u32::MAX,
+            u32::MAX,
+        )?,
+        answer: number(answer, u32::MAX)?,
+        state: number(state, u32::MAX)?,
+        parameters: number(parameters, u32::MAX)?,
+        actions: number(actions, u32::MAX)?,
+        reply: octets(reply)?,
+    };
+    Some(match record_entry(&mut buffer, used as usize, &entry) {
+        Err(answer) => answer.to_string(),
+        Ok(used) => format!("{TAKEN} {used} {}", hexadecimal(&buffer)),
+    })
+}

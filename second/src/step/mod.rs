@@ -1,0 +1,129 @@
+//! The step: one event from one context (document 01, "Answer numbers" for the
+//! order of the tests, "Events and steps" for the rest).
+
+pub mod received;
+pub mod reply;
+pub mod table;
+
+use crate::answer::*;
+use crate::context::{Context, GREATEST_TRANSACTION_VALUE};
+use crate::event::{carries, Carries, Event, UNACKNOWLEDGED};
+use crate::message::{Kind, Message, LONGEST_MESSAGE, SHORTEST_BUFFER};
+use crate::own::Own;
+use crate::state::State;
+use table::{Effect, Row, Trigger};
+
+/// What a step leaves: the answer, the context afterwards, the actions added up
+/// and the reply, empty where there is none.
+#[derive(Clone, PartialEq, Eq, Debug)]
+pub struct Outcome {
+    pub answer: u8,
+    pub context: Context,
+    pub actions: u8,
+    pub reply: Vec<u8>,
+}
+
+impl Outcome {
+    /// An answer with this context, without actions and without a reply.
+    pub fn quiet(context: &Context, answer: u8) -> Outcome {
+        Outcome {
+            answer,
+            context: context.clone(),
+            actions: 0,
+            reply: Vec::new(),
+        }
+    }
+}
+
+/// The tests in the order 7, 5, 6, 4, then the step proper.
+pub fn step(context: &Context, own: &Own, buffer_length: u32, event: &Event) -> Outcome {
+    if !context.is_fit() {
+        return Outcome::quiet(context, CONTEXT_NOT_FIT);
+    }
+    if buffer_length < SHORTEST_BUFFER {
+        return Outcome::quiet(context, BUFFER_SHORT);
+    }
+    let carried = carries(event.number);
+    if carried == Some(Carries::Message) && event.octets.len() > LONGEST_MESSAGE {
+        return Outcome::quiet(context, MESSAGE_LONG);
+    }
+    let event_in_range = match carried {
+        None => false,
+        Some(Carries::Nothing) => true,
+        Some(Carries::Call) => event.transaction_value <= GREATEST_TRANSACTION_VALUE,
+        Some(Carries::Message) => event.mode <= UNACKNOWLEDGED,
+    };
+    if !event_in_range || !own.in_range() {
+        return Outcome::quiet(context, OUTSIDE_RANGE);
+    }
+    if carried == Some(Carries::Message) {
+        return received::step(context, own, event);
+    }
+    match table::find(context, Trigger::Event(event.number)) {
+        Some(row) => take(row, context, own, event, None),
+        None => Outcome::quiet(context, NO_STEP),
+    }
+}
+
+/// Takes a row of the step table.
+pub fn take(
+    row: &Row,
+    context: &Context,
+    own: &Own,
+    event: &Event,
+    message: Option<&Message>,
+) -> Outcome {
+    let after = context_after(row, context, event, message);
+    let reply = match sent(row) {
+        Some(kind) => reply::call_message(kind, &after, own),
+        None => Vec::new(),
+    };
+    Outcome {
+        answer: TAKEN,
+        context: after,
+        actions: row.actions,
+        reply,
+    }
+}
+
+fn context_after(
+    row: &Row,
+    context: &Context,
+    event: &Event,
+    message: Option<&Message>,
+) -> Context {
+    // Entering U0 clears, whatever else the row does.
+    if row.next == State::U0 {
+        return Context::cleared();
+    }
+    let mut after = context.clone();
+    for effect in row.effects {
+        match *effect {
+            Effect::StoreCall => {
+                // In range by the test for answer 4, so it fits.
+                after.transaction_value = event.transaction_value as u8;
+                after.reference = event.reference;
+            }
+            Effect::StoreItsReference => {
+                after.reference = message.expect("a message's row").fields.reference;
+            }
+            Effect::Send(_) => (),
+            Effect::Set(timer) => after.timers.turn(timer, true),
+            Effect::Stop(timer) => after.timers.turn(timer, false),
+        }
+    }
+    // A step that stays in its state keeps the parameters.
+    if row.next != context.state {
+        after.state = row.next;
+        after.parameters = row.next.start_row();
+    }
+    after
+}
+
+/// The message that a row sends, if it sends one.
+fn sent(row: &Row) -> Option<Kind> {
+    row.effects.iter().find_map(|effect| match effect {
+        Effect::Send(kind) => Some(*kind),
+        _ => None,
+    })
+}

@@ -1,0 +1,155 @@
+//! What is made by chance holds together: true runs are accepted and reach
+//! every row, what was written is read back, what was recorded is judged.
+
+use crate::generate::log::{bytes, true_run};
+use crate::generate::random::Random;
+use crate::generate::{self, walk::Walk};
+use crate::log::judge::{judge, Judgement};
+use crate::log::record::record;
+use crate::own::Own;
+use crate::probe::answer;
+use crate::step::table::STEP_TABLE;
+
+fn commands(seed: u64, count: u64, word: &str) -> Vec<String> {
+    let mut lines = Vec::new();
+    generate::run(seed, count, &[word], &mut lines).unwrap();
+    String::from_utf8(lines)
+        .unwrap()
+        .lines()
+        .map(str::to_string)
+        .collect()
+}
+
+fn judged(run: &Walk, log: &[u8]) -> Judgement {
+    let own = Own {
+        key_number: run.own.key_number,
+        classmark: run.own.classmark,
+        identity: &run.own.identity,
+    };
+    judge(&own, log)
+}
+
+#[test]
+fn true_runs_are_accepted() {
+    let mut random = Random::from_seed(1);
+    for _ in 0..2_000 {
+        let run = true_run(&mut random);
+        match judged(&run, &bytes(&run.entries)) {
+            Judgement::Accepted {
+                count,
+                least,
+                greatest,
+            } => {
+                assert_eq!(count, run.entries.len() as u64);
+                assert!((least..=greatest).contains(&run.conn_req));
+                assert!(least >= 10_000 && greatest <= 30_000);
+            }
+            other => panic!("{other:?}"),
+        }
+    }
+}
+
+#[test]
+fn true_runs_reach_every_row_and_answer() {
+    let mut random = Random::from_seed(2);
+    let mut rows = [0; STEP_TABLE.len()];
+    let mut answers = [0; 4];
+    for _ in 0..3_000 {
+        let run = true_run(&mut random);
+        let mut again = Walk::begin(run.own.clone(), run.conn_req);
+        for entry in &run.entries {
+            answers[entry.answer as usize] += 1;
+            for (place, row) in STEP_TABLE.iter().enumerate() {
+                let taken = row.states.contains(&again.context.state)
+                    && entry.answer == 0
+                    && entry.state == u32::from(row.next.number())
+                    && entry.actions == u32::from(row.actions)
+                    && triggered(&row.trigger, entry);
+                rows[place] += u32::from(taken);
+            }
+            again.enter(entry.event.clone(), u64::from(entry.delta));
+        }
+    }
+    assert!(rows.iter().all(|&count| count > 0), "{rows:?}");
+    assert!(answers.iter().all(|&count| count > 100), "{answers:?}");
+}
+
+fn triggered(trigger: &crate::step::table::Trigger, entry: &crate::log::entry::Entry) -> bool {
+    use crate::step::table::Trigger;
+    match trigger {
+        Trigger::Event(number) => *number == entry.event.number,
+        Trigger::Message(kind) => {
+            entry.event.number == 18 && entry.event.octets[1] & 0xBF == kind.type_octet()
+        }
+    }
+}
+
+#[test]
+fn what_was_written_is_read_back() {
+    let mut written = 0;
+    for line in commands(3, 5_000, "write") {
+        let Some(octets) = answer(line.as_bytes())
+            .strip_prefix("0 ")
+            .map(str::to_string)
+        else {
+            continue;
+        };
+        written += 1;
+        let message: Vec<&str> = line.splitn(3, ' ').collect();
+        assert_eq!(
+            answer(format!("read {octets}").as_bytes()),
+            format!("0 {}", message[2])
+        );
+    }
+    assert!(written > 1_000);
+}
+
+#[test]
+fn what_was_recorded_is_judged() {
+    let mut random = Random::from_seed(4);
+    for _ in 0..500 {
+        let run = true_run(&mut random);
+        let mut buffer = vec![0xEE; 20_000];
+        let mut used = 0;
+        for entry in &run.entries {
+            used = record(&mut buffer, used, entry).unwrap();
+        }
+        if run.entries.is_empty() {
+            continue;
+        }
+        assert_eq!(buffer[..used], bytes(&run.entries));
+        assert!(buffer[used..].iter().all(|&byte| byte == 0xEE));
+        assert!(matches!(
+            judged(&run, &buffer[..used]),
+            Judgement::Accepted { .. }
+        ));
+    }
+}
+
+#[test]
+fn the_same_seed_gives_the_same_commands() {
+    for word in crate::probe::WORDS {
+        assert_eq!(commands(5, 300, word), commands(5, 300, word));
+        assert_ne!(commands(5, 300, word), commands(6, 300, word));
+    }
+}
+
+#[test]
+fn every_answer_number_is_reached() {
+    let reached = |word: &str| {
+        let mut answers: Vec<String> = commands(7, 20_000, word)
+            .iter()
+            .map(|line| answer(line.as_bytes()))
+            .map(|line| line.split(' ').next().unwrap().to_string())
+            .collect();
+        answers.sort();
+        answers.dedup();
+        answers.join(" ")
+    };
+    assert_eq!(reached("read"), "0 13 6 ?");
+    assert_eq!(reached("write"), "0 4 5 ?");
+    assert_eq!(reached("step"), "0 1 2 3 4 5 6 7 ?");
+    assert_eq!(reached("settings"), "0 12 ?");
+    assert_eq!(reached("judge"), "0 10 4 8 9 ?");
+    assert_eq!(reached("record"), "0 10 11 4 ?");
+}

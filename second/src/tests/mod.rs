@@ -1,0 +1,34 @@
+//! The program's own tests. Expected octets are worked out by hand from the
+//! papers. Three files compare the program with itself and say nothing about
+//! the papers: `generated`, `vectors`, and of `tables` the test that steps keep
+//! contexts fit.
+
+mod cases;
+mod generated;
+mod limits;
+mod lines;
+mod messages;
+mod optional;
+mod received;
+mod recorder;
+mod settings;
+mod steps;
+mod tables;
+mod vectors;
+
+/// Asks one command and compares its answer. Dots part octets for the eye alone.
+pub fn expect(command: &str, answer: &str) {
+    let line = command.replace('.', "");
+    let asked = crate::probe::answer(line.as_bytes());
+    assert_eq!(asked, answer.replace('.', ""), "for {command}");
+}
+
+/// A step of an MS with key number 3, classmark 33 59 A2 and identity 29 F1.
+pub fn expect_step(context: &str, event: &str, answer: &str) {
+    expect(&format!("step {context} 3 3359a2 29f1 255 {event}"), answer);
+}
+
+/// The cleared context with answer 0 and these actions, in the form of an answer.
+pub fn cleared(actions: u8) -> String {
+    format!("0 0 0 0 0 00000000 {actions} -")
+}

@@ -1,0 +1,95 @@
+//! The fixed sets show every answer and every row, and are not too long.
+
+use crate::probe::{answer, WORDS};
+use crate::step::table::{Trigger, STEP_TABLE};
+use crate::vectors::lines;
+
+/// The answer numbers that a word's set comes to, in order.
+fn reached(word: &str) -> Vec<String> {
+    let mut answers: Vec<String> = lines(word)
+        .iter()
+        .map(|line| answer(line.as_bytes()))
+        .map(|line| line.split(' ').next().unwrap().to_string())
+        .collect();
+    answers.sort();
+    answers.dedup();
+    answers
+}
+
+#[test]
+fn every_answer_is_there() {
+    assert_eq!(reached("read"), ["0", "13", "6", "?"]);
+    assert_eq!(reached("write"), ["0", "4", "5", "?"]);
+    assert_eq!(
+        reached("step"),
+        ["0", "1", "2", "3", "4", "5", "6", "7", "?"]
+    );
+    assert_eq!(reached("settings"), ["0", "12", "?"]);
+    assert_eq!(reached("judge"), ["0", "10", "4", "8", "9", "?"]);
+    assert_eq!(reached("record"), ["0", "10", "11", "4", "?"]);
+}
+
+#[test]
+fn every_row_is_taken() {
+    let asked: Vec<(String, String)> = lines("step")
+        .into_iter()
+        .map(|line| (answer(line.as_bytes()), line))
+        .filter(|(answered, _)| answered.starts_with("0 "))
+        .map(|(answered, line)| (line, answered))
+        .collect();
+    for row in &STEP_TABLE {
+        for state in row.states {
+            let found = asked.iter().any(|(line, answered)| {
+                let given: Vec<&str> = line.split(' ').collect();
+                let got: Vec<&str> = answered.split(' ').collect();
+                let event = match row.trigger {
+                    Trigger::Event(number) => given[10] == number.to_string(),
+                    Trigger::Message(kind) => {
+                        given[10] == "18" && given[14][2..4] == format!("{:02x}", kind.type_octet())
+                    }
+                };
+                event
+                    && given[1] == state.number().to_string()
+                    && got[1] == row.next.number().to_string()
+                    && got[6] == row.actions.to_string()
+            });
+            assert!(found, "{state:?} {row:?}");
+        }
+    }
+}
+
+#[test]
+fn every_pair_without_a_row_is_there() {
+    let no_step: Vec<String> = lines("step")
+        .into_iter()
+        .filter(|line| answer(line.as_bytes()).starts_with("3 "))
+        .collect();
+    for state in crate::state::STATES {
+        for event in 1..=17 {
+            let has_row = STEP_TABLE
+                .iter()
+                .any(|row| row.states.contains(&state) && row.trigger == Trigger::Event(event));
+            let found = no_step.iter().any(|line| {
+                let given: Vec<&str> = line.split(' ').collect();
+                given[1] == state.number().to_string() && given[10] == event.to_string()
+            });
+            assert!(has_row || found, "{state:?} {event}");
+        }
+    }
+}
+
+#[test]
+fn sizes() {
+    let mut bytes = 0;
+    for word in WORDS {
+        let lines = lines(word);
+        assert!(
+            (300..=3_500).contains(&lines.len()),
+            "{word} {}",
+            lines.len()
+        );
+        bytes += lines.iter().map(|line| line.len() + 1).sum::<usize>();
+        assert!(lines.iter().all(|line| !line.contains('\n')));
+    }
+    assert!(bytes < 6_000_000);
+}

@@ -1,0 +1,56 @@
+//! The fixed sets of commands: both sides of every number in document 01, each
+//! row of its tables, each table of clause 8 of the standard, and its cases.
+
+pub mod judge;
+pub mod judge_limits;
+pub mod judge_times;
+pub mod malformed;
+pub mod messages;
+pub mod read;
+pub mod read_optional;
+pub mod record;
+pub mod settings;
+pub mod step;
+pub mod step_limits;
+pub mod step_received;
+pub mod write;
+
+use std::collections::HashSet;
+use std::io::{self, Write};
+
+/// Prints the fixed set for one of the six words.
+pub fn run(word: &str, output: &mut dyn Write) -> io::Result<()> {
+    for line in lines(word) {
+        output.write_all(line.as_bytes())?;
+        output.write_all(b"\n")?;
+    }
+    Ok(())
+}
+
+pub fn lines(word: &str) -> Vec<String> {
+    let mut lines = Vec::new();
+    match word {
+        "read" => {
+            read::all(&mut lines);
+            read_optional::all(&mut lines);
+        }
+        "write" => write::all(&mut lines),
+        "step" => {
+            step::all(&mut lines);
+            step_limits::all(&mut lines);
+            step_received::all(&mut lines);
+        }
+        "settings" => settings::all(&mut lines),
+        "judge" => {
+            judge::all(&mut lines);
+            judge_limits::all(&mut lines);
+            judge_times::all(&mut lines);
+        }
+        _ => record::all(&mut lines),
+    }
+    malformed::all(word, &mut lines);
+    // Where two tables meet, a command comes up twice; once is enough.
+    let mut seen = HashSet::new();
+    lines.retain(|line| seen.insert(line.clone()));
+    lines
+}

@@ -1,0 +1,30 @@
+# What the tests share: where things are, the second program, and which probe commands the proved program has. Sourced by the tests, from any folder.
+set -u
+root=$(cd "$(dirname "${BASH_SOURCE[0]}")/.." && pwd)
+second=$root/second/target/release/second
+heidezirkel=$root/bin/heidezirkel
+scratch=$(mktemp -d)
+trap 'rm -rf "$scratch"' EXIT
+
+# The second program, built if its sources are newer.
+build_second() {
+  (cd "$root/second" && cargo build --release --offline --quiet)
+}
+
+# The command words that both programs have: all six but those of tests/not-yet.
+known_words() {
+  for word in read write step settings judge record; do
+    grep -qx "$word" "$root/tests/not-yet" || echo "$word"
+  done
+}
+
+# same_answers COMMANDS EXPECTED FOUND: compares line by line; tells the first commands whose answers differ.
+same_answers() {
+  if cmp -s "$2" "$3"; then
+    return 0
+  fi
+  echo "answers differ; the first (command, expected, found):"
+  paste -d '\n' "$1" "$2" "$3" | awk 'NR % 3 == 1 { c = $0 } NR % 3 == 2 { e = $0 } NR % 3 == 0 && e != $0 && n < 5 { n++; print substr(c, 1, 300); print "  " substr(e, 1, 300); print "  " substr($0, 1, 300) }'
+  echo "lines: $(wc -l <"$1") commands, $(wc -l <"$2") expected, $(wc -l <"$3") found"
+  return 1
+}
