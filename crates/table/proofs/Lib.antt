@@ -1,0 +1,10 @@
+pub mod Timers
+pub mod Right
+pub mod Complete
+pub mod Unique
+pub mod Reading
+pub mod Walk
+pub mod Points
+pub mod Start
+pub mod OneTimer
+pub mod Example

@@ -1,0 +1,10 @@
+pub mod Steps
+pub mod Log
+pub mod Timers
+pub mod Verdict
+pub mod Judge
+pub mod Reading
+pub mod Start
+pub mod Points
+pub mod Recorded
+pub mod OneTimer
