@@ -1,0 +1,32 @@
+// The word `probe`: commands on standard input, a line each, answered by a line each. A further command is a module of the crate
+// `commands` with a function of the same shape as `answer_read`, and a test here.
+use commands::malformed;
+use commands::read_command::answer_read;
+use commands::write_command::answer_write;
+use text::output::Output;
+use text::words::Words;
+use text::words::next_word;
+use text::words::part;
+use text::words::same;
+
+// Answers a line. `octets` is lent for the octets that its words spell.
+pub(crate) fn answer_line(
+    line: &[u8],
+    octets: &mut [u8],
+    buffer: &mut [u8],
+    output: Output,
+) -> Output {
+    let words = Words { at: 0, good: true };
+    let word = next_word(line, words);
+    let start = word.start;
+    let count = word.count;
+    let rest = word.words;
+    let name = part(line, start, count);
+    if same(name, b"read") {
+        return answer_read(line, rest, octets, buffer, output);
+    }
+    if same(name, b"write") {
+        return answer_write(line, rest, octets, buffer, output);
+    }
+    malformed(buffer, output)
+}

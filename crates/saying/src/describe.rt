@@ -1,0 +1,220 @@
+// Words for what messages hold: kinds and their directions (8.1 to 8.9), causes (table 9.4), call states (6.1.2.1), state attributes (9.4.6).
+// The words of a table are the lines of one text, and a match gives the line.
+ghost use Prim.Native.Nat.{_≤_, _<_};
+ghost use lib.ListN.{length};
+use crate::tell;
+use crate::tell_number;
+use crate::tell_octet;
+use crate::tell_place;
+use codes::attributes::parameters_of;
+use codes::cause::Cause;
+use codes::cause::cause_of;
+use codes::state::CallState;
+use codes::state::State;
+use codes::state::call_state_of;
+use text::words::find;
+use text::words::part;
+
+// Where the line behind the one at `at` starts, or the text's end.
+fn line_behind(text: &[u8], at: usize) -> usize
+    requires { ⌜ at ≤ length (now text) ⌝ }
+    ensures { λ r. ⌜ r ≤ length (now (text .entry)) ⌝ }
+{
+    let count = find(&text[at..], b'\n');
+    if count < text.len() - at {
+        return at + count + 1;
+    }
+    text.len()
+}
+
+// Tells a line of a text, counted from 0.
+fn tell_line(text: &[u8], number: u8) {
+    let mut at = 0;
+    let mut left = number;
+    while 0 < left {
+        at = line_behind(text, at);
+        left -= 1;
+    }
+    let count = find(part(text, at, text.len() - at), b'\n');
+    tell(part(text, at, count));
+}
+
+fn kind_line(kind: u8) -> u8 {
+    match kind {
+        0x31 => 0,
+        0x32 => 1,
+        0x33 => 2,
+        0x34 => 3,
+        0x35 => 4,
+        0x36 => 5,
+        0x38 => 6,
+        0x39 => 7,
+        0x3a => 8,
+        _ => 9,
+    }
+}
+
+// The name of a message type, bits 6 to 1, with its direction.
+pub fn tell_kind(kind: u8) {
+    let line = kind_line(kind);
+    tell_line(
+        b"IMMEDIATE SETUP, MS to network\n\
+          SETUP, MS to network\n\
+          CONNECT, network to MS\n\
+          TERMINATION, network to MS\n\
+          TERMINATION REQUEST, MS to network\n\
+          TERMINATION REJECT, network to MS\n\
+          STATUS, MS to network\n\
+          GET STATUS, network to MS\n\
+          SET PARAMETER, network to MS\n\
+          no type of table 9.1\n",
+        line,
+    );
+}
+
+fn cause_line(cause: Cause) -> u8 {
+    match cause {
+        Cause::IllegalMs => 0,
+        Cause::ImeiNotAccepted => 1,
+        Cause::IllegalMe => 2,
+        Cause::ServiceNotAuthorized => 3,
+        Cause::ApplicationNotSupported => 4,
+        Cause::RrConnectionAborted => 5,
+        Cause::NormalCallClearing => 6,
+        Cause::NetworkFailure => 7,
+        Cause::Busy => 8,
+        Cause::Congestion => 9,
+        Cause::UserNotOriginator => 10,
+        Cause::NetworkWantsToMaintainCall => 11,
+        Cause::ResponseToGetStatus => 12,
+        Cause::ServiceOptionNotSupported => 13,
+        Cause::ServiceOptionNotSubscribed => 14,
+        Cause::ServiceOptionOutOfOrder => 15,
+        Cause::CallCannotBeIdentified => 16,
+        Cause::RetryUponNewCell => 17,
+        Cause::InvalidTransactionIdentifier => 18,
+        Cause::SemanticallyIncorrect => 19,
+        Cause::InvalidMandatoryInformation => 20,
+        Cause::TypeNonExistent => 21,
+        Cause::TypeNotCompatible => 22,
+        Cause::ElementNonExistent => 23,
+        Cause::ProtocolError => 24,
+        Cause::Unspecific => 25,
+    }
+}
+
+// The words of table 9.4 for a cause's number.
+pub fn tell_cause(number: u8) {
+    let line = cause_line(cause_of(number));
+    tell_line(
+        b"Illegal MS\n\
+          IMEI not accepted\n\
+          Illegal ME\n\
+          Service not authorized\n\
+          Application not supported on the protocol\n\
+          RR connection aborted\n\
+          Normal call clearing\n\
+          Network failure\n\
+          Busy\n\
+          Congestion\n\
+          User not originator of call\n\
+          Network wants to maintain call\n\
+          Response to GET STATUS\n\
+          Service option not supported\n\
+          Requested service option not subscribed\n\
+          Service option temporarily out of order\n\
+          Call cannot be identified\n\
+          retry upon entry into a new cell\n\
+          Invalid transaction identifier value\n\
+          Semantically incorrect message\n\
+          Invalid mandatory information\n\
+          Message type non-existent or not implemented\n\
+          Message type not compatible with the protocol state\n\
+          Information element non-existent or not implemented\n\
+          Protocol error, unspecified\n\
+          unspecific cause\n",
+        line,
+    );
+}
+
+fn state_line(state: State) -> u8 {
+    match state {
+        State::U0 => 0,
+        State::U0p => 1,
+        State::U1 => 2,
+        State::U2 => 3,
+        State::U3 => 4,
+        State::U4 => 5,
+        State::U5 => 6,
+        State::U6 => 7,
+    }
+}
+
+pub fn tell_state(state: State) {
+    let line = state_line(state);
+    tell_line(
+        b"U0, NULL\n\
+          U0.p, MM CONNECTION PENDING\n\
+          U1, BROADCAST CALL INITIATED\n\
+          U2, BROADCAST CALL ACTIVE\n\
+          U3, BROADCAST CALL PRESENT\n\
+          U4, BROADCAST CALL CONNECTION REQUESTED\n\
+          U5, TERMINATION REQUESTED\n\
+          U6, RECEIVE MODE ACTIVE\n",
+        line,
+    );
+}
+
+// A call state by its code.
+pub fn tell_call_state(code: u8) {
+    tell(b"call state ");
+    tell_number(code);
+    tell(b", ");
+    match call_state_of(code) {
+        CallState::Is(state) => tell_state(state),
+        CallState::Reserved => tell(b"reserved"),
+    }
+    tell(b"\n");
+}
+
+fn tell_parameter(name: &[u8], set: bool) {
+    tell(name);
+    if set {
+        tell(b" T");
+        return;
+    }
+    tell(b" F");
+}
+
+// State attributes by their half octet.
+pub fn tell_attributes(half: u8) {
+    let parameters = parameters_of(half);
+    tell(b"state attributes ");
+    tell_parameter(b"ORIG", parameters.orig);
+    tell_parameter(b", COMM", parameters.comm);
+    tell_parameter(b", D-ATT", parameters.datt);
+    tell_parameter(b", U-ATT", parameters.uatt);
+    tell(b"\n");
+}
+
+// The place of one octet, or of several, counted from 1: `octet 3: `, `octets 3 to 6: `.
+pub fn tell_places(start: usize, count: usize) {
+    let first = std::num::wrapping_add_usize(start, 1);
+    if count <= 1 {
+        tell(b"octet ");
+        tell_place(first);
+        tell(b": ");
+        return;
+    }
+    tell(b"octets ");
+    tell_place(first);
+    tell(b" to ");
+    tell_place(std::num::wrapping_add_usize(start, count));
+    tell(b": ");
+}
+
+// An element's identifier.
+pub fn tell_element(identifier: u8) {
+    tell(b"element ");
+    tell_octet(identifier);
+}
