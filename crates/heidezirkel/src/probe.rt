@@ -1,8 +1,10 @@
 // The word `probe`: commands on standard input, a line each, answered by a line each. A further command is a module of the crate
-// `commands` with a function of the same shape as `answer_read`, and a test here.
+// `commands`, or a crate of its own, with a function of the same shape as `answer_read`, and a test here.
 use commands::malformed;
 use commands::read_command::answer_read;
 use commands::write_command::answer_write;
+use record_command::answer_record;
+use step_command::answer_step;
 use text::output::Output;
 use text::words::Words;
 use text::words::next_word;
@@ -27,6 +29,12 @@ pub(crate) fn answer_line(
     }
     if same(name, b"write") {
         return answer_write(line, rest, octets, buffer, output);
+    }
+    if same(name, b"step") {
+        return answer_step(line, rest, octets, buffer, output);
+    }
+    if same(name, b"record") {
+        return answer_record(line, rest, octets, buffer, output);
     }
     malformed(buffer, output)
 }

@@ -1,0 +1,57 @@
+-- What an answer says: any but 0 keeps the context and has no actions, and any but 0 and 2 sends nothing.
+use Prim.Native.Nat.{ℕ}
+use mathlib.Core.Path.{_≡_, refl}
+use mathlib.Core.Bool.{Bool}
+use Rattle.octets.proofs.Choice.{at-cond}
+use Rattle.codes.specs.Attributes.{parametersOf}
+use Rattle.context.specs.declared.Context.{Context}
+use Rattle.context.specs.Fit.{consistent}
+use Rattle.transitions.specs.declared.Send.{Send}
+use Rattle.transitions.specs.declared.Send.the-variants.{Nothing}
+use Rattle.transitions.specs.declared.Decision.{Decision}
+use Rattle.transitions.specs.declared.Decision.the-variants.{Take, NoStep, Ignore, Report, TellStatus, SetParameters}
+use Rattle.transitions.specs.Table.{decidedOf}
+use Rattle.call.specs.declared.Event.{Event}
+use Rattle.call.specs.declared.Seen.{Seen}
+use Rattle.call.specs.declared.Stepped.{Stepped}
+use Rattle.call.specs.Events.{seenOf}
+use Rattle.call.specs.Step.{took, ignored, noStep, reportedWith, statusTold, parametersSet, carriedOut, stepValue}
+
+pub record Right (x : Context) (r : Stepped) : Type 0 where
+  pub kept : (r .answer ≡ 0 → ⊥) → r .context ≡ x
+  pub still : (r .answer ≡ 0 → ⊥) → r .actions ≡ 0
+  pub silent : (r .answer ≡ 0 → ⊥) → (r .answer ≡ 2 → ⊥) → r .sends ≡ Nothing
+
+taken-right : (x y : Context) (actions : ℕ) (sends : Send) → Right x (took y actions sends)
+taken-right x y actions sends = record {
+  kept = λ n. elim (n refl) [ ];
+  still = λ n. elim (n refl) [ ];
+  silent = λ n m. elim (n refl) [ ];
+}
+
+pub ignored-right : (x : Context) → Right x (ignored x)
+unfolding ignored
+ignored-right x = record { kept = λ n. refl; still = λ n. refl; silent = λ n m. refl }
+
+pub no-step-right : (x : Context) → Right x (noStep x)
+unfolding noStep
+no-step-right x = record { kept = λ n. refl; still = λ n. refl; silent = λ n m. refl }
+
+pub reported-right : (x : Context) (cause : ℕ) → Right x (reportedWith cause x)
+unfolding reportedWith
+reported-right x cause =
+    at-cond (Right x) (x .parameters .comm) _ _ (λ e. record { kept = λ n. refl; still = λ n. refl; silent = λ n m. elim (m refl) [ ] }) (λ e. ignored-right x)
+
+carried-right : (x : Context) (d : Decision) (e : Seen) → Right x (carriedOut x d e)
+unfolding carriedOut statusTold parametersSet
+carried-right x (Take next actions sends stops sets) e = taken-right x _ actions sends
+carried-right x NoStep e = no-step-right x
+carried-right x Ignore e = ignored-right x
+carried-right x (Report cause) e = reported-right x cause
+carried-right x TellStatus e = at-cond (Right x) (x .parameters .comm) _ _ (λ q. taken-right x x 0 _) (λ q. ignored-right x)
+carried-right x SetParameters e =
+    at-cond (Right x) (consistent (x .state) (parametersOf (e .attributes))) _ _ (λ q. taken-right x _ 0 Nothing) (λ q. reported-right x 98)
+
+pub step-right : (x : Context) (event : Event) → Right x (stepValue x event)
+unfolding stepValue
+step-right x event = carried-right x (decidedOf x (seenOf event .number) (seenOf event .code)) (seenOf event)

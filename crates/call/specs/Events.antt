@@ -1,0 +1,66 @@
+-- Document 01, "Events and steps": event numbers, and what an event carries.
+use Prim.Native.Nat.{ℕ}
+use Rattle.codes.specs.MessageTypes.{
+  IMMEDIATE-SETUP,
+  SETUP,
+  CONNECT,
+  TERMINATION,
+  TERMINATION-REQUEST,
+  TERMINATION-REJECT,
+  STATUS,
+  GET-STATUS,
+  SET-PARAMETER,
+}
+use Rattle.message.specs.declared.Reference.{Reference}
+use Rattle.message.specs.declared.Message.{Message}
+use Rattle.message.specs.declared.Message.the-variants as Message
+use Rattle.call.specs.declared.Event.{Event}
+use Rattle.call.specs.declared.Event.the-variants as Event
+use Rattle.call.specs.declared.Stores.{Stores}
+use Rattle.call.specs.declared.Stores.the-variants.{Nothing, Call, CallReference}
+use Rattle.call.specs.declared.Seen.{Seen}
+
+-- An event that carries nothing.
+abbrev pub bare : ℕ → Seen
+bare number = record { number = number; code = 0; stores = Nothing; attributes = 0 }
+
+-- Events 1, 2 and 10 carry a transaction value and a reference, stored when taken.
+abbrev pub carrying : ℕ → ℕ → Reference → Seen
+carrying number value reference = record { number = number; code = 0; stores = Call value reference; attributes = 0 }
+
+-- A message received, by its type.
+abbrev pub heard : ℕ → Stores → ℕ → Seen
+heard code stores attributes = record { number = 18; code = code; stores = stores; attributes = attributes }
+
+-- Of the messages CONNECT stores its reference; SET PARAMETER carries state attributes.
+unfoldable pub seenMessage : Message → Seen
+seenMessage (Message.Connect reference originator) = heard CONNECT (CallReference reference) 0
+seenMessage (Message.GetStatus identity) = heard GET-STATUS Nothing 0
+seenMessage (Message.ImmediateSetup key classmark identity reference) = heard IMMEDIATE-SETUP Nothing 0
+seenMessage (Message.SetParameter attributes) = heard SET-PARAMETER Nothing attributes
+seenMessage (Message.Setup reference) = heard SETUP Nothing 0
+seenMessage (Message.Status cause state attributes) = heard STATUS Nothing 0
+seenMessage (Message.Termination cause) = heard TERMINATION Nothing 0
+seenMessage (Message.TerminationReject cause) = heard TERMINATION-REJECT Nothing 0
+seenMessage (Message.TerminationRequest reference) = heard TERMINATION-REQUEST Nothing 0
+
+-- The eighteen events.
+unfoldable pub seenOf : Event → Seen
+seenOf (Event.SetUp value reference) = carrying 1 value reference  -- set-up request
+seenOf (Event.ImmediateSetUp value reference) = carrying 2 value reference  -- immediate set-up request
+seenOf Event.Join = bare 3  -- join
+seenOf Event.Terminate = bare 4  -- terminate
+seenOf Event.Release = bare 5  -- release
+seenOf Event.Established = bare 6  -- MM connection established
+seenOf Event.EstablishmentFailed = bare 7  -- MM establishment failed
+seenOf Event.LinkFailure = bare 8  -- radio link failure
+seenOf Event.AbortDetected = bare 9  -- abort or release detected
+seenOf (Event.Notified value reference) = carrying 10 value reference  -- broadcast notified
+seenOf Event.ReceiveModeEntered = bare 11  -- group receive mode entered
+seenOf Event.NoChannel = bare 12  -- no channel
+seenOf Event.ChannelAvailable = bare 13  -- channel available
+seenOf Event.MmEstExpired = bare 14  -- expiry of T_MM-est
+seenOf Event.TermExpired = bare 15  -- expiry of T_term
+seenOf Event.ConnReqExpired = bare 16  -- expiry of T_conn req
+seenOf Event.NoChannelExpired = bare 17  -- expiry of T_no channel
+seenOf (Event.Received mode message) = seenMessage message  -- message received

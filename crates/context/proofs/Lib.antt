@@ -1,0 +1,4 @@
+pub mod States
+pub mod Whole
+pub mod Fit
+pub mod Coincide

@@ -1,0 +1,4 @@
+pub mod States
+pub mod Context
+pub mod Fit
+pub mod Running

@@ -1,0 +1,206 @@
+// The context of a call: its state, parameters, timers, transaction value and reference; which contexts are fit, and what a state starts with.
+ghost use mathlib.Core.Path.{_≡_};
+ghost use Rattle.context.specs.States.{numberOf, flagOf};
+ghost use Rattle.context.specs.Context.{startRow, cleared};
+ghost use Rattle.context.specs.Fit.{consistent, timersFit, isCleared, fitOf};
+ghost use Rattle.context.specs.Running.{runs};
+use codes::attributes::Parameters;
+use codes::state::State;
+use message::Reference;
+
+// Which timers run: T_MM-est, T_term, T_conn req, T_no channel.
+pub struct Timers {
+    pub mmest: bool,
+    pub term: bool,
+    pub connreq: bool,
+    pub nochannel: bool,
+}
+
+pub struct Context {
+    pub state: State,
+    pub parameters: Parameters,
+    pub timers: Timers,
+    pub value: u8,
+    pub reference: Reference,
+}
+
+// What each state starts with, 6.1.2.1.2 to 6.1.2.1.9: ORIG, COMM, D-ATT, U-ATT.
+pub const START_ROWS: [[bool; 4]; 8] = [
+    [false, false, false, false],
+    [true, false, false, false],
+    [true, true, false, false],
+    [true, true, true, true],
+    [false, false, false, false],
+    [false, false, false, false],
+    [true, true, true, true],
+    [false, false, true, false],
+];
+
+// The timers' lengths in milliseconds; T_conn req, the joining timer, is a setting from its least to its greatest.
+impl Timers {
+    pub const MM_EST: u32 = 5000;
+
+    pub const TERM: u32 = 10000;
+
+    pub const JOINING_LEAST: u32 = 10000;
+
+    pub const JOINING_GREATEST: u32 = 30000;
+
+    pub const NO_CHANNEL: u32 = 3000;
+}
+
+impl Context {
+    // U0, parameters false, no timer, value 0, reference zero.
+    pub fn cleared() -> Context
+        ensures { λ r. ⌜ r ≡ cleared ⌝ }
+    {
+        Context {
+            state: State::U0,
+            parameters: Parameters {
+                orig: false,
+                comm: false,
+                datt: false,
+                uatt: false,
+            },
+            timers: Timers {
+                mmest: false,
+                term: false,
+                connreq: false,
+                nochannel: false,
+            },
+            value: 0,
+            reference: Reference {
+                first: 0,
+                second: 0,
+                third: 0,
+                fourth: 0,
+            },
+        }
+    }
+}
+
+// The state's number: its row in the table of start rows, and its number in the log.
+pub fn state_number(state: State) -> usize
+    ensures { λ r. ⌜ r ≡ numberOf state ⌝ }
+{
+    match state {
+        State::U0 => 0,
+        State::U0p => 1,
+        State::U1 => 2,
+        State::U2 => 3,
+        State::U3 => 4,
+        State::U4 => 5,
+        State::U5 => 6,
+        State::U6 => 7,
+    }
+}
+
+// The parameters that a state starts with, taken from the table.
+pub fn start_row(state: State) -> Parameters
+    ensures { λ r. ⌜ r ≡ startRow state ⌝ }
+{
+    let number = state_number(state);
+    let row = START_ROWS[number];
+    Parameters {
+        orig: row[0],
+        comm: row[1],
+        datt: row[2],
+        uatt: row[3],
+    }
+}
+
+// The transaction flag of what is received in the state; what is sent has the opposite.
+pub fn expected_flag(state: State) -> bool
+    ensures { λ r. ⌜ r ≡ flagOf state ⌝ }
+{
+    match state {
+        State::U0 => false,
+        State::U0p => true,
+        State::U1 => true,
+        State::U2 => true,
+        State::U3 => false,
+        State::U4 => false,
+        State::U5 => true,
+        State::U6 => false,
+    }
+}
+
+// Whether the parameters are consistent with the state, 6.1.2.1.11.
+pub fn is_consistent(state: State, parameters: Parameters) -> bool
+    ensures { λ r. ⌜ r ≡ consistent state parameters ⌝ }
+{
+    match state {
+        State::U0 => !parameters.comm,
+        State::U0p => true,
+        State::U1 => true,
+        State::U2 => true,
+        State::U3 => !parameters.orig & !parameters.comm,
+        State::U4 => !parameters.orig & !parameters.comm,
+        State::U5 => true,
+        State::U6 => !parameters.orig & !parameters.comm,
+    }
+}
+
+// Whether the timers that run are those of the state.
+fn timers_fit(state: State, timers: Timers) -> bool
+    ensures { λ r. ⌜ r ≡ timersFit state timers ⌝ }
+{
+    match state {
+        State::U0 => !timers.mmest & (!timers.term & (!timers.connreq & !timers.nochannel)),
+        State::U0p => timers.mmest & (!timers.term & (!timers.connreq & !timers.nochannel)),
+        State::U1 => !timers.term & (!timers.connreq & !timers.nochannel),
+        State::U2 => !timers.mmest & (!timers.term & (!timers.connreq & !timers.nochannel)),
+        State::U3 => !timers.mmest & (!timers.term & (!timers.connreq & !timers.nochannel)),
+        State::U4 => !timers.mmest & (!timers.term & (timers.connreq & !timers.nochannel)),
+        State::U5 => !timers.mmest & (!timers.connreq & !timers.nochannel),
+        State::U6 => !timers.mmest & (!timers.term & (!timers.connreq & true)),
+    }
+}
+
+// Whether everything beside the state is as in the cleared context.
+fn is_cleared(context: Context) -> bool
+    ensures { λ r. ⌜ r ≡ isCleared context ⌝ }
+{
+    let parameters = context.parameters;
+    let timers = context.timers;
+    let reference = context.reference;
+    let none_set = !parameters.orig & (!parameters.comm & (!parameters.datt & !parameters.uatt));
+    let none_runs = !timers.mmest & (!timers.term & (!timers.connreq & !timers.nochannel));
+    let zero = (reference.first == 0)
+        & ((reference.second == 0) & ((reference.third == 0) & (reference.fourth == 0)));
+    none_set & (none_runs & ((context.value == 0) & zero))
+}
+
+// Whether the context is one that a call can be in.
+pub fn is_fit(context: Context) -> bool
+    ensures { λ r. ⌜ r ≡ fitOf context ⌝ }
+{
+    let state = context.state;
+    let parameters = context.parameters;
+    let timers = context.timers;
+    let number = state_number(state);
+    let consistent = is_consistent(state, parameters);
+    let cleared = is_cleared(context);
+    let timed = timers_fit(state, timers);
+    consistent & ((context.value <= 6) & ((!(number == 0) | cleared) & timed))
+}
+
+// The number of the timer that runs: 1 T_MM-est, 2 T_term, 3 T_conn req, 4 T_no channel, 0 none.
+pub fn running_timer(context: Context) -> u8
+    ensures { λ r. ⌜ r ≡ runs context ⌝ }
+{
+    let timers = context.timers;
+    if timers.mmest {
+        return 1;
+    }
+    if timers.term {
+        return 2;
+    }
+    if timers.connreq {
+        return 3;
+    }
+    if timers.nochannel {
+        return 4;
+    }
+    0
+}

@@ -1,0 +1,27 @@
+// The host's side: its one context, lent to be changed in place.
+ghost use mathlib.Core.Path.{_≡_};
+ghost use lib.ListN.{length};
+ghost use lib.Seq.{sets};
+ghost use Rattle.radio.specs.Step.{stepOf, shown};
+use context::Context;
+use radio::Happened;
+use radio::Outcome;
+use reply::Own;
+
+// The step over the host's context, in place.
+pub fn step(
+    context: &mut Context,
+    own: Own,
+    identity: &[u8],
+    happened: Happened,
+    octets: &[u8],
+    reply: &mut [u8],
+) -> Outcome
+    ensures { λ r. ⌜ (now (context .exit) ≡ shown (stepOf own (now (identity .entry)) (length (now (reply .entry))) (now (context .entry)) happened (now (octets .entry))) .context)
+        × (r ≡ shown (stepOf own (now (identity .entry)) (length (now (reply .entry))) (now (context .entry)) happened (now (octets .entry))) .outcome)
+        × (now (reply .exit) ≡ sets (now (reply .entry)) 0 (stepOf own (now (identity .entry)) (length (now (reply .entry))) (now (context .entry)) happened (now (octets .entry)) .reply)) ⌝ }
+{
+    let stepped = radio::step(*context, own, identity, happened, octets, reply);
+    *context = stepped.context;
+    stepped.outcome
+}

@@ -1,0 +1,20 @@
+-- Any two outcomes that a public contract of this crate allows coincide: the result, and each octet of the lent reply buffer.
+use Prim.Native.Nat.{ℕ}
+use mathlib.Core.Path.{_≡_}
+use mathlib.Core.List.{List}
+use lib.ListN.{length}
+use lib.Seq.{sets}
+use Rattle.octets.proofs.Coincide.{coincide}
+use Rattle.context.specs.declared.Context.{Context}
+use Rattle.reply.specs.declared.Own.{Own}
+use Rattle.radio.specs.declared.Happened.{Happened}
+use Rattle.radio.specs.declared.Stepped.{Stepped}
+use Rattle.radio.specs.Step.{Reaction, stepOf, shown}
+
+module _ (own : Own) (identity d : List ℕ) (x : Context) (h : Happened) (s : List ℕ) where
+  abbrev comes : Reaction
+  comes = stepOf own identity (length d) x h s
+
+  pub step-coincides : (a b : Stepped) (e f : List ℕ) → (a ≡ shown comes) × (e ≡ sets d 0 (comes .reply)) → (b ≡ shown comes) × (f ≡ sets d 0 (comes .reply))
+      → (a ≡ b) × (e ≡ f)
+  step-coincides a b e f p q = (coincide (shown comes) a b (p .0) (q .0), coincide (sets d 0 (comes .reply)) e f (p .1) (q .1))

@@ -1,0 +1,4 @@
+pub mod Range
+pub mod Reacting
+pub mod Answers
+pub mod Coincide

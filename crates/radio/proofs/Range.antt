@@ -1,0 +1,73 @@
+-- What the tests of a step that is not refused say of its arguments.
+use Prim.Native.Nat.{ℕ, _≤_, _<_}
+use mathlib.Core.Path.{_≡_, refl, sym}
+use mathlib.Core.List.{List, []}
+use mathlib.Core.Bool.{Bool, true, false, cond, not, _&&_, _||_}
+use native.Mathlib.Omega.{arith}
+use lib.Dec.{eqb, leb, ltb}
+use lib.ListN.{length}
+use borrow.Author.Tests.{ltb-false, eqb-false, eqb-true, not-false, le-leb}
+use Rattle.octets.proofs.Choice.{never}
+use Rattle.context.specs.declared.Context.{Context}
+use Rattle.context.specs.Fit.{fitOf}
+use Rattle.radio.specs.declared.Happened.{Happened}
+use Rattle.radio.specs.Step.{outOfRange, refusalOf}
+
+pub neither-first : (a b : Bool) → (a || b) ≡ false → a ≡ false
+neither-first true b e = e
+neither-first false b e = refl
+
+pub neither-second : (a b : Bool) → (a || b) ≡ false → b ≡ false
+neither-second true b e = never (sym e)
+neither-second false b e = e
+
+-- No refusal: each test was passed.
+chosen : (a b c d : Bool) → _≡_ {A = ℕ} (cond a 7 (cond b 5 (cond c 6 (cond d 4 0)))) 0 → (a ≡ false) × ((b ≡ false) × ((c ≡ false) × (d ≡ false)))
+chosen true b c d e = let z : ⊥ = omega arith in elim z [ ]
+chosen false true c d e = let z : ⊥ = omega arith in elim z [ ]
+chosen false false true d e = let z : ⊥ = omega arith in elim z [ ]
+chosen false false false true e = let z : ⊥ = omega arith in elim z [ ]
+chosen false false false false e = (refl, (refl, (refl, refl)))
+
+-- What holds of a step that is not refused.
+pub record InRange (x : Context) (key identity : ℕ) (h : Happened) (octets room : ℕ) : Type 0 where
+  pub fit : fitOf x ≡ true
+  pub big : 255 ≤ room
+  pub known : key ≤ 7
+  pub least : 1 ≤ identity
+  pub most : identity ≤ 8
+  pub short : eqb (h .number) 18 && ltb 251 octets ≡ false
+  pub range : outOfRange key identity h ≡ false
+
+pub in-range : (x : Context) (key identity : ℕ) (h : Happened) (octets room : ℕ) → refusalOf x key identity h octets room ≡ 0 → InRange x key identity h octets room
+unfolding refusalOf outOfRange
+in-range x key identity h octets room e =
+    let p = chosen (not (fitOf x)) (ltb room 255) (eqb (h .number) 18 && ltb 251 octets) (outOfRange key identity h) e in
+    let o = p .1 .1 .1 in
+    let r = neither-second (ltb 7 key) _ o in
+    let n : identity ≡ 0 → ⊥ = eqb-false identity 0 (neither-first (eqb identity 0) _ r) in
+    record {
+      fit = not-false (fitOf x) (p .0);
+      big = ltb-false room 255 (p .1 .0);
+      known = ltb-false 7 key (neither-first (ltb 7 key) _ o);
+      least = positive identity n;
+      most = ltb-false 8 identity (neither-first (ltb 8 identity) _ (neither-second (eqb identity 0) _ r));
+      short = p .1 .1 .0;
+      range = o;
+    }
+  where
+    positive : (n : ℕ) → (n ≡ 0 → ⊥) → 1 ≤ n
+    positive n h = omega arith
+
+-- The transaction value of an event that carries one is at most 6.
+pub value-most : (key identity : ℕ) (h : Happened) → outOfRange key identity h ≡ false → (eqb (h .number) 1 || (eqb (h .number) 2 || eqb (h .number) 10)) ≡ true
+    → leb (h .value) 6 ≡ true
+unfolding outOfRange
+value-most key identity h e c =
+    let a = neither-second (ltb 7 key) _ e in
+    let b = neither-second (eqb identity 0) _ a in
+    let d = neither-second (ltb 8 identity) _ b in
+    let f = neither-second (eqb (h .number) 0 || ltb 18 (h .number)) _ d in
+    let g : (eqb (h .number) 1 || (eqb (h .number) 2 || eqb (h .number) 10)) && ltb 6 (h .value) ≡ false = neither-second (eqb (h .number) 18 && ltb 1 (h .mode)) _ f in
+    let k : ltb 6 (h .value) ≡ false = rw c at g in
+    le-leb _ _ (ltb-false 6 (h .value) k)

@@ -1,0 +1,165 @@
+// The step as the host has it: an event as a number with its data, a received message as octets, a reply written into a lent buffer.
+// The context goes in and comes back by value.
+ghost use mathlib.Core.Path.{_≡_};
+ghost use lib.ListN.{length};
+ghost use lib.Seq.{sets};
+ghost use Rattle.radio.specs.Step.{eventOf, reactedTo, outOfRange, refusalOf, shown, stepOf};
+use call::Event;
+use context::Context;
+use message::Reference;
+use reply::Own;
+
+// An event: its number, and the data that an event may carry. What it does not carry has no effect.
+pub struct Happened {
+    pub number: u32,
+    pub value: u8,
+    pub reference: Reference,
+    pub mode: u8,
+}
+
+// What a step answers: document 01's number, the actions, and how many octets of the reply buffer are the reply.
+pub struct Outcome {
+    pub answer: u8,
+    pub actions: u8,
+    pub count: usize,
+}
+
+// The context after the step, and what the step answers.
+pub struct Stepped {
+    pub context: Context,
+    pub outcome: Outcome,
+}
+
+// The event of a number.
+pub enum Told {
+    Is(Event),
+    NoEvent,
+}
+
+// The event of a number from 1 to 17.
+fn event_of(number: u32, value: u8, reference: Reference) -> Told
+    ensures { λ r. ⌜ r ≡ eventOf number value reference ⌝ }
+{
+    match number {
+        1 => Told::Is(Event::SetUp(value, reference)),
+        2 => Told::Is(Event::ImmediateSetUp(value, reference)),
+        3 => Told::Is(Event::Join),
+        4 => Told::Is(Event::Terminate),
+        5 => Told::Is(Event::Release),
+        6 => Told::Is(Event::Established),
+        7 => Told::Is(Event::EstablishmentFailed),
+        8 => Told::Is(Event::LinkFailure),
+        9 => Told::Is(Event::AbortDetected),
+        10 => Told::Is(Event::Notified(value, reference)),
+        11 => Told::Is(Event::ReceiveModeEntered),
+        12 => Told::Is(Event::NoChannel),
+        13 => Told::Is(Event::ChannelAvailable),
+        14 => Told::Is(Event::MmEstExpired),
+        15 => Told::Is(Event::TermExpired),
+        16 => Told::Is(Event::ConnReqExpired),
+        17 => Told::Is(Event::NoChannelExpired),
+        _ => Told::NoEvent,
+    }
+}
+
+// The step of an event that is in range.
+fn react(context: Context, identity: &[u8], happened: Happened, octets: &[u8]) -> call::Stepped
+    ensures { λ r. ⌜ r ≡ reactedTo (now (identity .entry)) context happened (now (octets .entry)) ⌝ }
+{
+    let reference = happened.reference;
+    if happened.number == 18 {
+        return received::hear(context, identity, happened.mode, octets);
+    }
+    match event_of(happened.number, happened.value, reference) {
+        Told::Is(event) => call::step(context, event),
+        Told::NoEvent => call::refuse(context),
+    }
+}
+
+// Whether something is outside its range.
+fn is_out_of_range(key: u8, identity: usize, happened: Happened) -> bool
+    ensures { λ r. ⌜ r ≡ outOfRange key identity happened ⌝ }
+{
+    let number = happened.number;
+    let no_event = (number == 0) | (18 < number);
+    let no_mode = (number == 18) & (1 < happened.mode);
+    let no_value = ((number == 1) | ((number == 2) | (number == 10))) & (6 < happened.value);
+    (7 < key) | ((identity == 0) | ((8 < identity) | (no_event | (no_mode | no_value))))
+}
+
+// Why a step is refused, in the order of the tests: 7, 5, 6, 4; and 0 where it is not.
+fn refusal(
+    context: Context,
+    key: u8,
+    identity: usize,
+    happened: Happened,
+    octets: usize,
+    room: usize,
+) -> u8
+    ensures { λ r. ⌜ r ≡ refusalOf context key identity happened octets room ⌝ }
+{
+    if !context::is_fit(context) {
+        return 7;
+    }
+    if room < 255 {
+        return 5;
+    }
+    if (happened.number == 18) & (251 < octets) {
+        return 6;
+    }
+    if is_out_of_range(key, identity, happened) {
+        return 4;
+    }
+    0
+}
+
+// A refusal: nothing is changed.
+fn refused(context: Context, answer: u8) -> Stepped
+    ensures { λ r. ⌜ r ≡ shown (Rattle.radio.specs.Step.refused answer context) ⌝ }
+{
+    Stepped {
+        context,
+        outcome: Outcome {
+            answer,
+            actions: 0,
+            count: 0,
+        },
+    }
+}
+
+// The step. The reply is written over the start of `reply`; of a message received `octets` are the octets.
+pub fn step(
+    context: Context,
+    own: Own,
+    identity: &[u8],
+    happened: Happened,
+    octets: &[u8],
+    reply: &mut [u8],
+) -> Stepped
+    ensures { λ r. ⌜ (r ≡ shown (stepOf own (now (identity .entry)) (length (now (reply .entry))) context happened (now (octets .entry))))
+        × (now (reply .exit) ≡ sets (now (reply .entry)) 0 (stepOf own (now (identity .entry)) (length (now (reply .entry))) context happened (now (octets .entry)) .reply)) ⌝ }
+{
+    let answer = refusal(
+        context,
+        own.key,
+        identity.len(),
+        happened,
+        octets.len(),
+        reply.len(),
+    );
+    if answer != 0 {
+        return refused(context, answer);
+    }
+    let taken = react(context, identity, happened, octets);
+    let after = taken.context;
+    let sends = taken.sends;
+    let count = reply::put(reply, own, identity, octets, after, sends);
+    Stepped {
+        context: after,
+        outcome: Outcome {
+            answer: taken.answer,
+            actions: taken.actions,
+            count,
+        },
+    }
+}

@@ -1,0 +1,4 @@
+pub mod Lying
+pub mod Comparing
+pub mod Rules
+pub mod Coincide

@@ -1,0 +1,4 @@
+pub mod Copied
+pub mod Putting
+pub mod Fits
+pub mod Coincide

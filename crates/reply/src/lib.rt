@@ -1,0 +1,135 @@
+// What the mobile station sends: the message that a step decides on, written over the start of the lent reply buffer.
+ghost use mathlib.Core.Path.{_≡_};
+ghost use mathlib.Core.List.{_∷_};
+ghost use Prim.Native.Nat.{_≤_, _+_, _%_};
+ghost use lib.ListN.{length};
+ghost use lib.Seq.{sets};
+ghost use Rattle.octets.specs.Run.{part};
+ghost use Rattle.message.specs.Content.{immediateSetup};
+ghost use Rattle.reply.specs.Reply.{copyCount, statusOf, putContent, putOf};
+ghost use Rattle.reply.specs.Put.{countOf, putFrom};
+use codes::attributes::attributes_of;
+use codes::state::call_state_code;
+use context::Context;
+use element::Run;
+use message::Classmark;
+use message::Half;
+use message::Message;
+use octets::copy_to;
+use transitions::Send;
+use writing::Wrote;
+
+// What the mobile station says of itself beside its identity: ciphering key number and classmark.
+pub struct Own {
+    pub key: u8,
+    pub classmark: Classmark,
+}
+
+// How many octets writing wrote.
+fn written_count(wrote: Wrote) -> usize
+    ensures { λ r. ⌜ r ≡ countOf wrote ⌝ }
+{
+    match wrote {
+        Wrote::Written(count) => count,
+        Wrote::ShortBuffer => 0,
+        Wrote::OutOfRange => 0,
+    }
+}
+
+// Writes a message of the context's transaction; its runs lie in `source`.
+fn put_message(reply: &mut [u8], source: &[u8], context: Context, message: Message) -> usize
+    ensures { λ r. ⌜ r ≡ length (putFrom (length (now (reply .entry))) (now (source .entry)) context message) ⌝ }
+    ensures { λ _. ⌜ now (reply .exit) ≡ sets (now (reply .entry)) 0 (putFrom (length (now (reply .entry))) (now (source .entry)) context message) ⌝ }
+{
+    let state = context.state;
+    let flag = context::expected_flag(state);
+    let wrote = writing::write(reply, source, !flag, context.value, message);
+    written_count(wrote)
+}
+
+// Writes a STATUS: the cause, then the first `count` octets of the message received.
+fn put_status(reply: &mut [u8], context: Context, cause: u8, octets: &[u8], count: usize) -> usize
+    requires { ⌜ (count ≤ 245) × (count ≤ length (now octets)) ⌝ }
+    ensures { λ r. ⌜ r ≡ length (putContent (length (now (reply .entry))) context (statusOf context ((128 + cause % 128) ∷ part (now (octets .entry)) 0 count))) ⌝ }
+    ensures { λ _. ⌜ now (reply .exit) ≡ sets (now (reply .entry)) 0 (putContent (length (now (reply .entry))) context (statusOf context ((128 + cause % 128) ∷ part (now (octets .entry)) 0 count))) ⌝ }
+{
+    let state = context.state;
+    let parameters = context.parameters;
+    let code = call_state_code(state);
+    let attributes = attributes_of(parameters);
+    let mut source = [0u8; 246];
+    source[0] = 128 + cause % 128;
+    copy_to(&mut source, 1, octets, 0, count);
+    let whole = Run {
+        start: 0,
+        count: 1 + count,
+    };
+    let message = Message::Status {
+        cause: whole,
+        state: Half::Present(code),
+        attributes: Half::Present(attributes),
+    };
+    put_message(reply, &source, context, message)
+}
+
+// How many octets of a message received an error STATUS copies: all or none.
+fn copy_count(count: usize) -> usize
+    ensures { λ r. ⌜ r ≡ copyCount count ⌝ }
+    ensures { λ r. ⌜ (r ≤ 245) × (r ≤ count) ⌝ }
+{
+    if count <= 245 {
+        return count;
+    }
+    0
+}
+
+// Writes an IMMEDIATE SETUP with our own identity.
+fn put_immediate(reply: &mut [u8], own: Own, identity: &[u8], context: Context) -> usize
+    ensures { λ r. ⌜ r ≡ length (putContent (length (now (reply .entry))) context (immediateSetup (own .key) (own .classmark) (now (identity .entry)) (context .reference))) ⌝ }
+    ensures { λ _. ⌜ now (reply .exit) ≡ sets (now (reply .entry)) 0 (putContent (length (now (reply .entry))) context (immediateSetup (own .key) (own .classmark) (now (identity .entry)) (context .reference))) ⌝ }
+{
+    let reference = context.reference;
+    let classmark = own.classmark;
+    let run = Run {
+        start: 0,
+        count: identity.len(),
+    };
+    let message = Message::ImmediateSetup {
+        key: own.key,
+        classmark,
+        identity: run,
+        reference,
+    };
+    put_message(reply, identity, context, message)
+}
+
+// Writes what the step sends over the start of `reply`, and says how many octets that are. `octets` is the message received.
+pub fn put(
+    reply: &mut [u8],
+    own: Own,
+    identity: &[u8],
+    octets: &[u8],
+    context: Context,
+    sends: Send,
+) -> usize
+    ensures { λ r. ⌜ r ≡ length (putOf (length (now (reply .entry))) own (now (identity .entry)) (now (octets .entry)) context sends) ⌝ }
+    ensures { λ _. ⌜ now (reply .exit) ≡ sets (now (reply .entry)) 0 (putOf (length (now (reply .entry))) own (now (identity .entry)) (now (octets .entry)) context sends) ⌝ }
+{
+    let reference = context.reference;
+    match sends {
+        Send::Nothing => 0,
+        Send::ImmediateSetup => put_immediate(reply, own, identity, context),
+        Send::Setup => put_message(reply, identity, context, Message::Setup { reference }),
+        Send::TerminationRequest => put_message(
+            reply,
+            identity,
+            context,
+            Message::TerminationRequest { reference },
+        ),
+        Send::Status(cause) => put_status(reply, context, cause, octets, 0),
+        Send::ErrorStatus(cause) => {
+            let count = copy_count(octets.len());
+            put_status(reply, context, cause, octets, count)
+        }
+    }
+}

@@ -1,0 +1,172 @@
+// A context in the probe's five words: STATE PARAMS TIMERS TV REF.
+ghost use Prim.Native.Nat.{_≤_};
+use codes::attributes::Parameters;
+use codes::state::State;
+use commands::fields::reference_word;
+use commands::fields::small_word;
+use context::Context;
+use context::Timers;
+use context::state_number;
+use message::Reference;
+use saying::say;
+use saying::say_hex;
+use saying::say_number;
+use text::output::Output;
+use text::words::Words;
+
+// The words as numbers. A state's number may be over 7.
+pub(crate) struct Lent {
+    pub state: u8,
+    pub parameters: u8,
+    pub timers: u8,
+    pub value: u8,
+    pub reference: Reference,
+}
+
+pub(crate) struct LentWord {
+    pub lent: Lent,
+    pub words: Words,
+}
+
+pub(crate) enum StateTold {
+    Is(Context),
+    NoState,
+}
+
+enum Numbered {
+    Is(State),
+    NoState,
+}
+
+pub(crate) fn lent_context(line: &[u8], words: Words) -> LentWord {
+    let state = small_word(line, words, 255);
+    let state_words = state.words;
+    let parameters = small_word(line, state_words, 15);
+    let parameters_words = parameters.words;
+    let timers = small_word(line, parameters_words, 15);
+    let timers_words = timers.words;
+    let value = small_word(line, timers_words, 255);
+    let value_words = value.words;
+    let call = reference_word(line, value_words);
+    let next = call.words;
+    let reference = call.reference;
+    let lent = Lent {
+        state: state.value,
+        parameters: parameters.value,
+        timers: timers.value,
+        value: value.value,
+        reference,
+    };
+    LentWord { lent, words: next }
+}
+
+fn state_of(number: u8) -> Numbered {
+    match number {
+        0 => Numbered::Is(State::U0),
+        1 => Numbered::Is(State::U0p),
+        2 => Numbered::Is(State::U1),
+        3 => Numbered::Is(State::U2),
+        4 => Numbered::Is(State::U3),
+        5 => Numbered::Is(State::U4),
+        6 => Numbered::Is(State::U5),
+        7 => Numbered::Is(State::U6),
+        8..=255 => Numbered::NoState,
+    }
+}
+
+// 8 ORIG + 4 COMM + 2 D-ATT + U-ATT.
+fn parameters_of(number: u8) -> Parameters {
+    Parameters {
+        orig: number / 8 % 2 == 1,
+        comm: number / 4 % 2 == 1,
+        datt: number / 2 % 2 == 1,
+        uatt: number % 2 == 1,
+    }
+}
+
+// 8 T_MM-est + 4 T_term + 2 T_conn req + T_no channel.
+fn timers_of(number: u8) -> Timers {
+    Timers {
+        mmest: number / 8 % 2 == 1,
+        term: number / 4 % 2 == 1,
+        connreq: number / 2 % 2 == 1,
+        nochannel: number % 2 == 1,
+    }
+}
+
+pub(crate) fn state_told(lent: Lent) -> StateTold {
+    let parameters = parameters_of(lent.parameters);
+    let timers = timers_of(lent.timers);
+    let reference = lent.reference;
+    let value = lent.value;
+    match state_of(lent.state) {
+        Numbered::Is(state) => StateTold::Is(Context {
+            state,
+            parameters,
+            timers,
+            value,
+            reference,
+        }),
+        Numbered::NoState => StateTold::NoState,
+    }
+}
+
+// The weight of a bit that is set.
+fn weight(set: bool, weighs: u8) -> u8
+    ensures { λ r. ⌜ r ≤ weighs ⌝ }
+{
+    if set {
+        return weighs;
+    }
+    0
+}
+
+fn four(a: bool, b: bool, c: bool, d: bool) -> u8 {
+    weight(a, 8) + weight(b, 4) + weight(c, 2) + weight(d, 1)
+}
+
+pub(crate) fn say_context(buffer: &mut [u8], output: Output, context: Context) -> Output {
+    let state = context.state;
+    let parameters = context.parameters;
+    let timers = context.timers;
+    let reference = context.reference;
+    let number = state_number(state);
+    let lent = Lent {
+        state: (number % 256) as u8,
+        parameters: four(
+            parameters.orig,
+            parameters.comm,
+            parameters.datt,
+            parameters.uatt,
+        ),
+        timers: four(timers.mmest, timers.term, timers.connreq, timers.nochannel),
+        value: context.value,
+        reference,
+    };
+    say_lent(buffer, output, lent)
+}
+
+// A number and the space behind it.
+fn say_field(buffer: &mut [u8], output: Output, number: u8) -> Output {
+    let said = say_number(buffer, output, number);
+    say(buffer, said, b" ")
+}
+
+fn say_numbers(buffer: &mut [u8], output: Output, lent: Lent) -> Output {
+    let state = say_field(buffer, output, lent.state);
+    let parameters = say_field(buffer, state, lent.parameters);
+    let timers = say_field(buffer, parameters, lent.timers);
+    say_field(buffer, timers, lent.value)
+}
+
+pub(crate) fn say_lent(buffer: &mut [u8], output: Output, lent: Lent) -> Output {
+    let reference = lent.reference;
+    let octets = [
+        reference.first,
+        reference.second,
+        reference.third,
+        reference.fourth,
+    ];
+    let numbers = say_numbers(buffer, output, lent);
+    say_hex(buffer, numbers, &octets)
+}

@@ -1,0 +1,3 @@
+pub mod InState
+pub mod Every
+pub mod Coincide

@@ -1,0 +1,23 @@
+-- `in_u0p` meets its contract: each arm is the table's row, and the numbers without an arm have none.
+use borrow.Author.Needs.{needs}
+use Rattle.codes.specs.declared.state.State.the-variants.{U0p}
+use Rattle.octets.proofs.Rows.{no-row}
+use Rattle.transitions.specs.declared.Decision.the-variants.{NoStep}
+use Rattle.transitions.specs.Table.{stepTable, heardIn, decidedIn, numbersIn}
+use Rattle.transitions.proofs.in_u0p.Statement.{statement}
+use Rattle.transitions.proofs.in_u0p.Tie as tie
+
+pub in-u0p-spec : {M : Type 1} → statement M
+unfolding stepTable heardIn decidedIn
+in-u0p-spec =
+    tie.close
+    (tie.spec
+    (λ c κs. search needs)
+    (λ c. rw (c .match .keys1))
+    (λ c. rw (c .match .keys2))
+    (λ c. rw (c .match .keys3))
+    (λ c. rw (c .match .keys4))
+    (λ c. rw (c .match .keys5))
+    (λ c. rw (c .match .keys6))
+    (λ c. rw (c .before .match .keys7) (c .heard-in-u0p .ensures))
+    (λ c. no-row (c .before .args .number) NoStep (numbersIn U0p (c .before .args .context) (c .before .args .code)) (c .match .rest)))

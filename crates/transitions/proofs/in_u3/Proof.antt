@@ -1,0 +1,22 @@
+-- `in_u3` meets its contract: each arm is the table's row, and the numbers without an arm have none.
+use borrow.Author.Needs.{needs}
+use Rattle.codes.specs.declared.state.State.the-variants.{U3}
+use Rattle.octets.proofs.Rows.{no-row}
+use Rattle.transitions.specs.declared.Decision.the-variants.{NoStep}
+use Rattle.transitions.specs.Table.{stepTable, heardIn, decidedIn, numbersIn}
+use Rattle.transitions.proofs.in_u3.Statement.{statement}
+use Rattle.transitions.proofs.in_u3.Tie as tie
+
+pub in-u3-spec : {M : Type 1} → statement M
+unfolding stepTable heardIn decidedIn
+in-u3-spec =
+    tie.close
+    (tie.spec
+    (λ c κs. search needs)
+    (λ c. rw (c .match .keys1))
+    (λ c. rw (c .match .keys2))
+    (λ c. rw (c .match .keys3))
+    (λ c. rw (c .match .keys4))
+    (λ c. rw (c .before .match .keys5) (c .heard-elsewhere .ensures))
+    (λ c. rw (c .match .keys6))
+    (λ c. no-row (c .before .args .number) NoStep (numbersIn U3 (c .before .args .context) (c .before .args .code)) (c .match .rest .0)))
