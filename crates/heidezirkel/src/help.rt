@@ -5,6 +5,8 @@ use saying::tell;
 pub(crate) fn complain_usage() {
     complain(
         b"usage: heidezirkel message HEX..   takes a message apart in words\n       \
+          heidezirkel settings FILE    says what a settings file sets, or where it is refused\n       \
+          heidezirkel show LOG         says what a log holds, a line an entry\n       \
           heidezirkel probe            answers commands on standard input\n       \
           heidezirkel --help           says more; so does WORD --help\n",
     );
@@ -15,6 +17,8 @@ pub(crate) fn tell_help() {
         b"usage: heidezirkel WORD [ARGUMENT..]\n\
           Broadcast call control of GSM 04.69 for mobile stations.\n  \
           message HEX..   takes a message apart in words\n  \
+          settings FILE   says what a settings file sets, or at which line it is refused and why\n  \
+          show LOG        says what a log holds, a line an entry\n  \
           probe           answers commands on standard input, a line each\n  \
           WORD --help     says more of a word\n\
           Exit status: 0 fine, 1 refused, 2 could not run.\n",
@@ -37,11 +41,30 @@ pub(crate) fn tell_probe_help() {
           Answers commands on standard input, a line each, with a line each. Words are parted by one space;\n\
           octets are lower-case hexadecimal, - for none; numbers are decimal. A line that is no command: ?\n  \
           read OCTETS                            6, or 13 FAULT, or 0 FLAG VALUE KIND FIELDS..\n  \
-          write LENGTH FLAG VALUE KIND FIELDS..  5, or 4, or 0 OCTETS\n\
+          write LENGTH FLAG VALUE KIND FIELDS..  5, or 4, or 0 OCTETS\n  \
+          step, settings, judge, record          as docs/PROBE.md has them\n\
           KIND and FIELDS: connect REFERENCE ORIGINATOR, get_status IDENTITY,\n  \
           immediate_setup KEY CLASSMARK IDENTITY REFERENCE, set_parameter ATTRIBUTES, setup REFERENCE,\n  \
           status CAUSE STATE ATTRIBUTES, termination CAUSE, termination_reject CAUSE,\n  \
           termination_request REFERENCE\n\
           A line has at most 262144 bytes.\n",
+    );
+}
+
+pub(crate) fn tell_settings_help() {
+    tell(
+        b"usage: heidezirkel settings FILE\n\
+          Says what the settings file sets; or names the first line that can't be read, repeats a name or is missing,\n\
+          and what is wanted there. Nothing stands in for such a line.\n\
+          Exit status: 0 the file is read, 1 it is refused, 2 it can't be opened.\n",
+    );
+}
+
+pub(crate) fn tell_show_help() {
+    tell(
+        b"usage: heidezirkel show LOG\n\
+          Says what a log holds, a line an entry: its time, event, message, states, parameters, actions and reply.\n\
+          An entry that can't be read is told with its number, the byte place and what is wrong. It judges nothing.\n\
+          Exit status: 0 every entry is read, 1 one is not, 2 the file can't be opened.\n",
     );
 }

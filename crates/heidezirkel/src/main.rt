@@ -4,21 +4,29 @@
 mod arguments;
 mod help;
 mod input;
-mod message_word;
 mod probe;
 
+ghost use mathlib.Core.Path.{_≡_};
+ghost use Prim.Native.Nat.{_≤_};
+ghost use lib.ListN.{length};
 use arguments::join;
+use filing::Filed;
+use filing::read_file;
 use help::complain_usage;
 use help::tell_help;
 use help::tell_message_help;
 use help::tell_probe_help;
+use help::tell_settings_help;
+use help::tell_show_help;
 use input::line_room;
 use input::octets_room;
 use input::stream;
-use message_word::tell_apart;
+use log_words::tell_log;
+use message_words::tell_apart;
 use saying::complain;
 use saying::flush;
 use saying::tell_verdict;
+use settings_words::tell_settings;
 use text::hex::read_hex;
 use text::words::part;
 use text::words::same;
@@ -80,6 +88,68 @@ fn run_message() {
     tell_verdict(verdict);
 }
 
+// The one argument of a word, a file's name, and its bytes in `buffer`; a complaint where it can't be had.
+fn read_argument(word: &[u8], buffer: &mut [u8], name: &mut [u8]) -> Filed
+    ensures { λ r. ⌜ r .count ≤ length (now (buffer .exit)) ⌝ }
+{
+    let none = Filed {
+        good: false,
+        count: 0,
+        whole: false,
+    };
+    if os::arg_count() != 3 {
+        complain(b"heidezirkel ");
+        complain(word);
+        complain(b": takes one argument, a file's name\n");
+        return none;
+    }
+    let count = os::arg(2, name);
+    read_file(word, part(name, 0, count), buffer)
+}
+
+fn run_settings() {
+    if asks_help(2) {
+        tell_settings_help();
+        tell_verdict(0);
+        return;
+    }
+    let mut file = io::large_buffer();
+    let mut name = io::buffer();
+    let filed = read_argument(b"settings", &mut file, &mut name);
+    if !filed.good {
+        tell_verdict(2);
+        return;
+    }
+    let count = filed.count;
+    let length = os::arg(2, &mut name);
+    let verdict = tell_settings(part(&name, 0, length), part(&file, 0, count), filed.whole);
+    tell_verdict(verdict);
+}
+
+// A byte more than a log may have, so that a longer one is told.
+fn log_room() -> [u8; 65537]
+    ensures { λ r. ⌜ 65537 ≡ length r ⌝ }
+{
+    [0; 65537]
+}
+
+fn run_show() {
+    if asks_help(2) {
+        tell_show_help();
+        tell_verdict(0);
+        return;
+    }
+    let mut log = log_room();
+    let mut name = io::buffer();
+    let filed = read_argument(b"show", &mut log, &mut name);
+    if !filed.good {
+        tell_verdict(2);
+        return;
+    }
+    let count = filed.count;
+    tell_verdict(tell_log(part(&log, 0, count)));
+}
+
 fn main() {
     let mut argument = io::buffer();
     let count = os::arg(1, &mut argument);
@@ -90,6 +160,14 @@ fn main() {
     }
     if same(word, b"probe") {
         run_probe();
+        return;
+    }
+    if same(word, b"settings") {
+        run_settings();
+        return;
+    }
+    if same(word, b"show") {
+        run_show();
         return;
     }
     if same(word, b"--help") {

@@ -3,7 +3,9 @@
 use commands::malformed;
 use commands::read_command::answer_read;
 use commands::write_command::answer_write;
+use judge_command::answer_judge;
 use record_command::answer_record;
+use settings_words::settings_command::answer_settings;
 use step_command::answer_step;
 use text::output::Output;
 use text::words::Words;
@@ -32,6 +34,12 @@ pub(crate) fn answer_line(
     }
     if same(name, b"step") {
         return answer_step(line, rest, octets, buffer, output);
+    }
+    if same(name, b"settings") {
+        return answer_settings(line, rest, octets, buffer, output);
+    }
+    if same(name, b"judge") {
+        return answer_judge(line, rest, octets, buffer, output);
     }
     if same(name, b"record") {
         return answer_record(line, rest, octets, buffer, output);

@@ -27,9 +27,9 @@ use text::words::Words;
 use text::words::finished;
 use text::words::part;
 
-struct OwnWord {
-    own: Own,
-    words: Words,
+pub struct OwnWord {
+    pub own: Own,
+    pub words: Words,
 }
 
 struct HappenedWord {
@@ -38,7 +38,7 @@ struct HappenedWord {
 }
 
 // CKSN CLASSMARK: a number of an octet and exactly three octets.
-fn own_word(line: &[u8], words: Words) -> OwnWord {
+pub fn own_word(line: &[u8], words: Words) -> OwnWord {
     let key = small_word(line, words, 255);
     let key_words = key.words;
     let mut three = [0u8; 3];

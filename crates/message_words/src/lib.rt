@@ -1,6 +1,11 @@
-// The word `message`: takes a message apart in words, field by field with its octets; or tells where it is at fault and why.
+// Messages in words: taken apart field by field with the octets of each, or told briefly within a line; one that can't be read with
+// where it is at fault and why.
+mod brief;
+mod faults;
+
 ghost use Prim.Native.Nat.{_≤_, _<_};
 ghost use lib.ListN.{length};
+pub use brief::tell_briefly;
 use commands::fields::octet_at;
 use commands::read_command::fault_number;
 use element::Counted;
@@ -8,6 +13,7 @@ use element::Found;
 use element::Run;
 use element::counted_at;
 use element::seek;
+use faults::tell_fault;
 use message::Fault;
 use message::Message;
 use message::Reading;
@@ -25,7 +31,7 @@ use saying::tell_place;
 use text::words::part;
 
 // Takes a message apart, and answers the verdict.
-pub(crate) fn tell_apart(octets: &[u8]) -> u8 {
+pub fn tell_apart(octets: &[u8]) -> u8 {
     match message::read(octets) {
         Reading::TooLong => tell_too_long(octets),
         Reading::Unreadable(fault) => tell_unreadable(octets, fault),
@@ -99,56 +105,9 @@ fn tell_unreadable(octets: &[u8], fault: Fault) -> u8 {
     tell_number(fault_number(fault));
     tell(b"): ");
     tell_fault(octets, fault);
+    tell(b"\n");
     tell_heads(octets);
     1
-}
-
-fn tell_fault(octets: &[u8], fault: Fault) {
-    match fault {
-        Fault::TooShort => tell_missing(octets, b" is missing: a message has at least 2 octets\n"),
-        Fault::Discriminator => tell_other_protocol(octet_at(octets, 0)),
-        Fault::UnknownType => tell_unknown_type(octet_at(octets, 1)),
-        Fault::CutShort => tell_missing(octets, b" is missing: the message is cut short\n"),
-        Fault::WrongLength(place) => tell_wrong_length(place, octet_at(octets, place)),
-        Fault::MustBeKnown(place, identifier) => tell_must_be_known(place, identifier),
-    }
-}
-
-// The octet behind the last one is the first that is missing.
-fn tell_missing(octets: &[u8], why: &[u8]) {
-    tell(b"octet ");
-    tell_place(std::num::wrapping_add_usize(octets.len(), 1));
-    tell(why);
-}
-
-fn tell_other_protocol(first: u8) {
-    tell(b"octet 1: protocol discriminator ");
-    tell_number(first % 16);
-    tell(b", broadcast call control has 1\n");
-}
-
-fn tell_unknown_type(second: u8) {
-    tell(b"octet 2: message type ");
-    tell_octet(second);
-    tell(b" is not one of table 9.1\n");
-}
-
-fn tell_must_be_known(place: usize, identifier: u8) {
-    tell_places(place, 1);
-    tell_element(identifier);
-    tell(b" must be known but is not defined for this message\n");
-}
-
-// The length octet of a cause is octet 3, of a classmark octet 4, of the identity of IMMEDIATE SETUP octet 8.
-fn tell_wrong_length(place: usize, found: u8) {
-    tell_places(place, 1);
-    tell(b"length ");
-    tell_number(found);
-    match place {
-        2 => tell(b", the cause wants 1 to 247\n"),
-        3 => tell(b", the mobile station classmark wants 3\n"),
-        _ => tell(b", the mobile identity wants 1 to 8\n"),
-    }
 }
 
 // ---- fields

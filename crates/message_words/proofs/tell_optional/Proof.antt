@@ -2,8 +2,8 @@
 use Prim.Native.Nat.{_-_}
 use borrow.Author.Needs.{needs}
 use lib.ListN.{length}
-use Rattle.heidezirkel.proofs.message_word.tell_optional.Statement.{statement}
-use Rattle.heidezirkel.proofs.message_word.tell_optional.Tie as tie
+use Rattle.message_words.proofs.tell_optional.Statement.{statement}
+use Rattle.message_words.proofs.tell_optional.Tie as tie
 
 abbrev Inv-loop : tie.InvT-loop
 Inv-loop octets from kind at₀ at = Unit {0}

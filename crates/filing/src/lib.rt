@@ -1,0 +1,106 @@
+// Whole files, read into a lent buffer. What stands in the way is told on standard error, with the program's word and the file's path.
+ghost use Prim.Native.Nat.{_≤_};
+ghost use lib.ListN.{length};
+use saying::complain;
+
+// Whether the file could be read, how many bytes of it the buffer holds now, and whether that is the whole file. Where it could
+// not be read, there are none.
+pub struct Filed {
+    pub good: bool,
+    pub count: usize,
+    pub whole: bool,
+}
+
+// Reads the file from its start, as much as the buffer holds. `word` is the program's word that wants it, as in `heidezirkel show`.
+pub fn read_file(word: &[u8], path: &[u8], buffer: &mut [u8]) -> Filed
+    ensures { λ r. ⌜ r .count ≤ length (now (buffer .exit)) ⌝ }
+{
+    let descriptor = os::open_read(path);
+    if descriptor < 0 {
+        complain_of(word, path, os::errno());
+        return Filed {
+            good: false,
+            count: 0,
+            whole: false,
+        };
+    }
+    let filed = fill(descriptor, buffer);
+    if !filed.good {
+        complain_of(word, path, os::errno());
+    }
+    libc::close(descriptor);
+    filed
+}
+
+// Reads until the file ends or the buffer is full.
+fn fill(descriptor: i32, buffer: &mut [u8]) -> Filed
+    ensures { λ r. ⌜ r .count ≤ length (now (buffer .exit)) ⌝ }
+{
+    let mut have = 0;
+    while have < buffer.len() {
+        let got = libc::read(descriptor, &mut buffer[have..]);
+        if got < 0 {
+            return Filed {
+                good: false,
+                count: 0,
+                whole: false,
+            };
+        }
+        let count = io::count(got, &buffer[have..]);
+        if count == 0 {
+            return Filed {
+                good: true,
+                count: have,
+                whole: true,
+            };
+        }
+        have += count;
+    }
+    at_end(descriptor, have)
+}
+
+// The buffer is full: whether the file ends here shows when one byte more is asked for.
+fn at_end(descriptor: i32, have: usize) -> Filed
+    ensures { λ r. ⌜ r .count ≤ have ⌝ }
+{
+    let mut one = [0u8; 1];
+    let got = libc::read(descriptor, &mut one);
+    if got < 0 {
+        return Filed {
+            good: false,
+            count: 0,
+            whole: false,
+        };
+    }
+    Filed {
+        good: true,
+        count: have,
+        whole: got == 0,
+    }
+}
+
+// Why the file can't be read, by the number of the error.
+fn complain_of(word: &[u8], path: &[u8], error: i32) {
+    complain(b"heidezirkel ");
+    complain(word);
+    complain(b": ");
+    if error == libc::ENOENT {
+        complain_why(path, b"there is no such file\n");
+        return;
+    }
+    if error == libc::EISDIR {
+        complain_why(path, b"this is a folder, and a file is wanted\n");
+        return;
+    }
+    if error == libc::EACCES {
+        complain_why(path, b"this file may not be read: permission denied\n");
+        return;
+    }
+    os::fail(path);
+}
+
+fn complain_why(path: &[u8], why: &[u8]) {
+    complain(path);
+    complain(b": ");
+    complain(why);
+}

@@ -1,0 +1,5 @@
+pub mod Timing
+pub mod Claiming
+pub mod Explaining
+pub mod Mirror
+pub mod Walk

@@ -1,0 +1,172 @@
+-- The judge's loop: before each turn, what is left of the log gives the whole answer.
+use Prim.Native.Nat.{ℕ, _+_, _-_, _*_, _≤_, _<_}
+use mathlib.Core.Path.{_≡_, refl, sym, ap, subst, _∙_}
+use mathlib.Core.Bool.{Bool, true, false, cond, not, _&&_, _||_}
+use mathlib.Core.List.{List}
+use native.Mathlib.Omega.{arith}
+use lib.Dec.{eqb, leb, ltb}
+use lib.ListN.{length}
+use borrow.Author.Tests.{le-ltb, lt-ltb, eqb-true}
+use Rattle.context.specs.Context.{cleared}
+use Rattle.context.specs.Running.{joiningLeast, joiningGreatest}
+use Rattle.reply.specs.declared.Own.{Own}
+use Rattle.number.specs.Number.{greatest, numberAt, onNumber}
+use Rattle.number.specs.declared.Number.{Number}
+use Rattle.number.specs.declared.Number.the-variants.{Value, Unreadable as NoNumber}
+use Rattle.number.proofs.Reading.{Moves, number-moves}
+use Rattle.log.specs.declared.Entry.{Entry}
+use Rattle.log.specs.declared.Found.{Found}
+use Rattle.log.specs.declared.Found.the-variants.{Read, Unreadable}
+use Rattle.log.specs.Reading.{entryAt, meant}
+use Rattle.log.proofs.Progress.{EntryRight, Sound, entry-right}
+use Rattle.table.specs.Judge.{judge, judgeFrom}
+use Rattle.table.specs.OneTimer.{oneTimer, told, judgeOne}
+use Rattle.table.proofs.Walk.{walk-end, walk-torn, walk-stuck, walk-onward, turn-time, turn-ordered}
+use Rattle.verdict.specs.declared.Judged.{Judged}
+use Rattle.verdict.specs.declared.Judged.the-variants.{Accepted, Unreadable as UnreadableAt, Unexplained, TooLong, OutOfRange}
+use Rattle.verdict.specs.Table.{steps, joining}
+use Rattle.verdict.specs.Entries.{entryOf, readOf, reader}
+use Rattle.verdict.specs.Judge.{settingsOut, entriesAt, judgedOf, versionJudged, judgeOf}
+use Rattle.judge.specs.declared.Track.{Track}
+use Rattle.judge.specs.declared.Begun.{Begun}
+use Rattle.judge.specs.declared.Begun.the-variants.{At, NoVersion}
+use Rattle.judge.specs.declared.Turned.{Turned}
+use Rattle.judge.specs.declared.Turned.the-variants.{Onward, Torn, Stuck, Astray}
+use Rattle.judge.specs.declared.Why.{Why}
+use Rattle.judge.specs.Turn.{onFound, explainedOf, astray, turnOf, begunOf}
+use Rattle.judge.proofs.Mirror.{momentOf, intervalOf, Mirrors, Goes, explain-mirrors}
+
+module _ (own : Own) (identity s : List ℕ) where
+  pub record Loop (t : Track) : Type 0 where
+    pub short : length s ≤ 65536
+    pub inside : t .place ≤ length s
+    pub ordered : t .started ≤ t .time
+    pub timed : t .time ≤ 86400000 * t .place
+    pub counted : t .entries ≤ t .place
+    pub same : judgedOf (told (judgeFrom (steps 1 own identity) (oneTimer joining) (momentOf own identity s t t) (intervalOf own identity s t t, true) (t .entries) (entriesAt 1 own identity s (t .place))))
+        ≡ judgeOf own identity s
+
+  -- ---- the tests before the loop, and its beginning
+
+  pub too-long : 65536 < length s → TooLong ≡ judgeOf own identity s
+  unfolding judgeOf
+  too-long h = rw (lt-ltb 65536 (length s) h)
+
+  module _ (h : length s ≤ 65536) where
+    pub out-of-range : settingsOut (own .key) (length identity) ≡ true → OutOfRange ≡ judgeOf own identity s
+    unfolding judgeOf
+    out-of-range o = rw (le-ltb 65536 (length s) h, o)
+
+    module _ (o : settingsOut (own .key) (length identity) ≡ false) where
+      abbrev pub Starts : Begun → Type 0
+      Starts (At t) = Loop t
+      Starts NoVersion = UnreadableAt 0 ≡ judgeOf own identity s
+
+      pub begun-starts : Starts (begunOf s)
+      unfolding begunOf judgeOf versionJudged judgeOne judge
+      begun-starts = by-number (numberAt s 0) refl (number-moves s 0)
+        where
+          by-version : (version place : ℕ) → numberAt s 0 ≡ Value version place → Moves 5 greatest s 0 (Value version place) → (b : Bool) → eqb version 1 ≡ b
+              → Starts (cond b (At (record { place = place; entries = 0; context = cleared; time = 0; started = 0; least = joiningLeast; greatest = joiningGreatest })) NoVersion)
+          by-version version place q m true e =
+              let v : version ≡ 1 = eqb-true version 1 e in
+              record {
+                short = h;
+                inside = omega (arith, m);
+                ordered = omega arith;
+                timed = omega arith;
+                counted = omega arith;
+                same = rw (le-ltb 65536 (length s) h, o, q, v);
+              }
+          by-version version place q m false e = rw (le-ltb 65536 (length s) h, o, q, e)
+
+          by-number : (n : Number) → numberAt s 0 ≡ n → Moves 5 greatest s 0 n
+              → Starts (onNumber n NoVersion λ version place.
+              cond (eqb version 1)
+              (At (record { place = place; entries = 0; context = cleared; time = 0; started = 0; least = joiningLeast; greatest = joiningGreatest }))
+              NoVersion)
+          by-number NoNumber q m = rw (le-ltb 65536 (length s) h, o, q)
+          by-number (Value version place) q m = by-version version place q m (eqb version 1) refl
+
+  -- ---- its end
+
+  module _ (t : Track) (l : Loop t) where
+    pub loop-end : length s ≤ t .place → Accepted (t .entries) (t .least) (t .greatest) ≡ judgeOf own identity s
+    loop-end h =
+        rw (walk-end (steps 1 own identity) (oneTimer joining) (reader 1 own identity) s (t .place) (momentOf own identity s t t) (intervalOf own identity s t t, true) (t .entries) h) at (l .same)
+
+    -- ---- a turn
+
+    module _ (h : t .place < length s) where
+      abbrev pub Turns : Turned → Type 0
+      Turns (Onward u) = Loop u × (t .place < u .place)
+      Turns (Torn place) = UnreadableAt (t .entries + 1) ≡ judgeOf own identity s
+      Turns (Stuck why) = Unexplained (t .entries + 1) ≡ judgeOf own identity s
+      Turns Astray = ⊥
+
+      not-astray : astray (t .time) (t .started) (t .entries) ≡ false
+      unfolding astray
+      not-astray =
+          rw (
+            le-ltb 5662310400000 (t .time) (omega (arith, l .timed, l .short, l .inside)),
+            le-ltb (t .time) (t .started) (l .ordered),
+            le-ltb 65536 (t .entries) (omega (arith, l .counted, l .short, l .inside)),
+          )
+
+      torn : (place : ℕ) → entryAt s (t .place) ≡ Unreadable place → UnreadableAt (t .entries + 1) ≡ judgeOf own identity s
+      torn place q =
+          rw (walk-torn (steps 1 own identity) (oneTimer joining) (reader 1 own identity) s (t .place) (momentOf own identity s t t) (intervalOf own identity s t t, true) (t .entries) h
+          (ap (readOf 1 own identity s) q)) at (l .same)
+
+      module _ (e : Entry) (place : ℕ) (q : entryAt s (t .place) ≡ Read e place) where
+        sound : Sound s (t .place) e place
+        sound = subst (EntryRight s (t .place)) q (entry-right s (t .place))
+
+        explained : (v : Turned) → Mirrors own identity s t e place (l .ordered) v → Turns v
+        explained (Onward u) g = (
+          record {
+            short = l .short;
+            inside = omega (arith, g .place-is, sound .inside);
+            ordered = turn-ordered (steps 1 own identity) (oneTimer joining) (momentOf own identity s t t) (intervalOf own identity s t t, true) (entryOf 1 own identity (meant s e)) _ _ (g .turns) (l .ordered);
+            timed = let w : u .time ≡ t .time + e .delta
+                = turn-time (steps 1 own identity) (oneTimer joining) (momentOf own identity s t t) (intervalOf own identity s t t, true) (entryOf 1 own identity (meant s e)) (momentOf own identity s t u) (intervalOf own identity s t u, true) (g .turns) in
+                omega (arith, l .timed, g .place-is, sound .on, sound .delta);
+            counted = omega (arith, l .counted, g .place-is, g .entries-is, sound .on);
+            same = rw (g .place-is, g .entries-is)
+                (rw (walk-onward (steps 1 own identity) (oneTimer joining) (reader 1 own identity) s (t .place) (momentOf own identity s t t) (intervalOf own identity s t t, true) (t .entries) h
+                (entryOf 1 own identity (meant s e)) place (ap (readOf 1 own identity s) q) _ _ (g .turns)) at (l .same));
+          },
+          omega (arith, g .place-is, sound .on),
+        )
+        explained (Torn at) g = absurd g
+        explained (Stuck why) g =
+            rw (walk-stuck (steps 1 own identity) (oneTimer joining) (reader 1 own identity) s (t .place) (momentOf own identity s t t) (intervalOf own identity s t t, true) (t .entries) h
+            (entryOf 1 own identity (meant s e)) place (ap (readOf 1 own identity s) q) g) at (l .same)
+        explained Astray g = absurd g
+
+      pub turn-right : Turns (turnOf own identity s t)
+      unfolding turnOf
+      turn-right = rw not-astray (go (entryAt s (t .place)) refl)
+        where
+          go : (f : Found) → entryAt s (t .place) ≡ f → Turns (onFound f Torn (explainedOf own identity s t))
+          go (Unreadable place) q = torn place q
+          go (Read e place) q = explained e place q (explainedOf own identity s t e place) (explain-mirrors own identity s t e place (l .ordered))
+
+      -- The same, by what the turn found.
+      turned : (v : Turned) → turnOf own identity s t ≡ v → Turns v
+      turned v q = subst Turns q turn-right
+
+      pub goes-onward : (u : Track) → turnOf own identity s t ≡ Onward u → Loop u
+      goes-onward u q = turned (Onward u) q .0
+
+      pub falls : (u : Track) → turnOf own identity s t ≡ Onward u → length s - u .place < length s - t .place
+      falls u q = omega (arith, turned (Onward u) q .1)
+
+      pub is-torn : (place : ℕ) → turnOf own identity s t ≡ Torn place → UnreadableAt (t .entries + 1) ≡ judgeOf own identity s
+      is-torn place q = turned (Torn place) q
+
+      pub is-stuck : (why : Why) → turnOf own identity s t ≡ Stuck why → Unexplained (t .entries + 1) ≡ judgeOf own identity s
+      is-stuck why q = turned (Stuck why) q
+
+      pub never-astray : turnOf own identity s t ≡ Astray → Unexplained (t .entries + 1) ≡ judgeOf own identity s
+      never-astray q = absurd (turned Astray q)

@@ -1,0 +1,13 @@
+-- `is_untimely` meets its contract, straight from the timer's length.
+use borrow.Author.Needs.{needs}
+use Rattle.judge.specs.Turn.{untimelyAt}
+use Rattle.judge.proofs.is_untimely.Statement.{statement}
+use Rattle.judge.proofs.is_untimely.Tie as tie
+
+pub is-untimely-spec : {M : Type 1} → statement M
+unfolding untimelyAt
+is-untimely-spec =
+    tie.close
+    (tie.spec
+    (λ c κs. search needs)
+    (λ c. rw (c .known-length .ensures)))

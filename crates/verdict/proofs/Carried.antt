@@ -1,0 +1,165 @@
+-- What an event does not carry has no effect on its step.
+use Prim.Native.Nat.{ℕ}
+use mathlib.Core.Path.{_≡_, refl, sym, ap, _∙_}
+use mathlib.Core.Bool.{Bool, true, false, cond, not, _&&_, _||_}
+use mathlib.Core.List.{List, [], _∷_}
+use lib.Dec.{eqb, ltb}
+use lib.ListN.{length}
+use borrow.Author.Tests.{eqb-true}
+use Rattle.octets.specs.Rows.{rows}
+use Rattle.octets.proofs.Choice.{at-cond, never}
+use Rattle.codes.specs.declared.state.State.{State}
+use Rattle.message.specs.declared.Reference.{Reference}
+use Rattle.context.specs.declared.Context.{Context}
+use Rattle.context.proofs.Whole.{at-state}
+use Rattle.transitions.specs.declared.Send.{Send}
+use Rattle.transitions.specs.declared.Send.the-variants.{Nothing, ImmediateSetup, Setup, TerminationRequest, Status, ErrorStatus}
+use Rattle.transitions.specs.declared.Decision.{Decision}
+use Rattle.transitions.specs.declared.Decision.the-variants.{Take, NoStep, Ignore, Report, TellStatus, SetParameters}
+use Rattle.transitions.specs.Table.{stepTable, decidedOf}
+use Rattle.transitions.proofs.Every.{Test, inTable, decided-holds}
+use Rattle.call.specs.declared.Event.{Event as CallEvent}
+use Rattle.call.specs.declared.Seen.{Seen}
+use Rattle.call.specs.declared.Stepped.{Stepped as Taken}
+use Rattle.call.specs.Events.{seenOf}
+use Rattle.call.specs.Step.{ignored, noStep, carriedOut, stepValue}
+use Rattle.reply.specs.declared.Own.{Own}
+use Rattle.reply.specs.Reply.{replyOf}
+use Rattle.radio.specs.declared.Happened.{Happened}
+use Rattle.radio.specs.declared.Told.{Told}
+use Rattle.radio.specs.declared.Told.the-variants.{Is, NoEvent}
+use Rattle.radio.specs.Step.{events, eventOf, onEvent, reactedTo, outOfRange, reacted, stepOf}
+use Rattle.log.specs.Layout.{carriesCall, noReference}
+use Rattle.verdict.specs.Table.{Event, stepped}
+use Rattle.verdict.specs.Entries.{callReference, carriedBy}
+
+-- ---- what holds of each event of the list of numbers holds of the event of a number
+
+abbrev pub AllTold : (Told → Type 0) → List (ℕ × Told) → Type 0
+AllTold P [] = Unit {0}
+AllTold P (r ∷ rs) = P (r .1) × AllTold P rs
+
+pub every-told : (P : Told → Type 0) (n : ℕ) (d : Told) (rs : List (ℕ × Told)) → P d → AllTold P rs → P (rows n d rs)
+every-told P n d [] p ps = p
+every-told P n d (r ∷ rs) p ps = at-cond P (eqb n (r .0)) (r .1) (rows n d rs) (λ e. ps .0) (λ e. every-told P n d rs p (ps .1))
+
+-- None of them is a message received.
+abbrev pub NoMessage : Told → Type 0
+NoMessage (Is event) = eqb (seenOf event .number) 18 ≡ false
+NoMessage NoEvent = Unit {0}
+
+pub no-message : (n v : ℕ) (r : Reference) → NoMessage (eventOf n v r)
+unfolding eventOf seenOf
+no-message n v r =
+    every-told NoMessage n NoEvent (events v r) tt
+    (refl, (refl, (refl, (refl, (refl, (refl, (refl, (refl, (refl, (refl, (refl, (refl, (refl, (refl, (refl, (refl, (refl, tt)))))))))))))))))
+
+-- ---- only the answer to a message copies it
+
+abbrev plain : Send → Bool
+plain Nothing = true
+plain ImmediateSetup = true
+plain Setup = true
+plain TerminationRequest = true
+plain (Status cause) = true
+plain (ErrorStatus cause) = false
+
+plain-reply : (own : Own) (identity s u : List ℕ) (x : Context) (sends : Send) → plain sends ≡ true → replyOf own identity s x sends ≡ replyOf own identity u x sends
+unfolding replyOf
+plain-reply own identity s u x Nothing e = refl
+plain-reply own identity s u x ImmediateSetup e = refl
+plain-reply own identity s u x Setup e = refl
+plain-reply own identity s u x TerminationRequest e = refl
+plain-reply own identity s u x (Status cause) e = refl
+plain-reply own identity s u x (ErrorStatus cause) e = never e
+
+abbrev plainRow : Test
+plainRow n next sends stops sets = plain sends
+
+rows-plain : (s : State) → inTable plainRow s stepTable ≡ true
+unfolding stepTable
+rows-plain = at-state (λ s. inTable plainRow s stepTable) refl
+
+abbrev Plain : Decision → Type 0
+Plain (Take next actions sends stops sets) = plain sends ≡ true
+Plain NoStep = Unit {0}
+Plain Ignore = Unit {0}
+Plain (Report cause) = ⊥
+Plain TellStatus = ⊥
+Plain SetParameters = ⊥
+
+decided-plain : (x : Context) (n code : ℕ) → eqb n 18 ≡ false → Plain (decidedOf x n code)
+unfolding decidedOf
+decided-plain x n code =
+    decided-holds plainRow (λ k d. eqb k 18 ≡ false → Plain d) (x .state) x (λ k next actions sends stops sets e f. e) (λ k f. tt) (rows-plain (x .state))
+    (λ f. tt) (λ cause f. never (sym f)) (λ f. never (sym f)) (λ q f. never (sym f)) n code
+
+abbrev PlainTaken : Taken → Type 0
+PlainTaken t = plain (t .sends) ≡ true
+
+carried-plain : (x : Context) (d : Decision) (e : Seen) → Plain d → PlainTaken (carriedOut x d e)
+unfolding carriedOut noStep ignored
+carried-plain x (Take next actions sends stops sets) e p = p
+carried-plain x NoStep e p = refl
+carried-plain x Ignore e p = refl
+carried-plain x (Report cause) e p = absurd p
+carried-plain x TellStatus e p = absurd p
+carried-plain x SetParameters e p = absurd p
+
+event-plain : (x : Context) (t : Told) → NoMessage t → PlainTaken (onEvent x t)
+unfolding onEvent stepValue noStep
+event-plain x (Is event) h = carried-plain x _ (seenOf event) (decided-plain x (seenOf event .number) (seenOf event .code) h)
+event-plain x NoEvent h = refl
+
+-- ---- the step
+
+either : (a b : Bool) → (a || b) ≡ false → (a ≡ false) × (b ≡ false)
+either true b e = never (sym e)
+either false b e = (refl, e)
+
+call-not-received : (n : ℕ) → carriesCall n ≡ true → eqb n 18 ≡ false
+unfolding carriesCall
+call-not-received n c = go (eqb n 18) refl
+  where
+    go : (b : Bool) → eqb n 18 ≡ b → b ≡ false
+    go true e = let q : n ≡ 18 = eqb-true n 18 e in never (rw q at c)
+    go false e = refl
+
+module _ (own : Own) (identity : List ℕ) (x : Context) (e : Event) where
+  abbrev number : ℕ
+  number = e .happened .number
+
+  -- Without a message, the octets do not matter.
+  no-octets : (t : Told) → NoMessage t → (s u : List ℕ) → reacted own identity s (onEvent x t) ≡ reacted own identity u (onEvent x t)
+  no-octets t h s u = rw (plain-reply own identity s u (onEvent x t .context) (onEvent x t .sends) (event-plain x t h))
+
+  -- Without a call, the value and the reference do not matter.
+  no-call : carriesCall number ≡ false → (v w : ℕ) (r q : Reference) → eventOf number v r ≡ eventOf number w q
+  unfolding eventOf carriesCall
+  no-call c v w r q =
+      let a = either (eqb number 1) _ c in
+      let b = either (eqb number 2) _ (a .1) in
+      rw (a .0, b .0, b .1)
+
+  pub only-carried : stepped own identity x (carriedBy e) ≡ stepped own identity x e
+  unfolding stepOf outOfRange reactedTo carriedBy carriesCall
+  only-carried = by-call (carriesCall number) refl
+    where
+      by-number : carriesCall number ≡ false → (m : Bool) → eqb number 18 ≡ m → stepped own identity x (carriedBy e) ≡ stepped own identity x e
+      by-number c true m = rw (c, m)
+      by-number c false m =
+          rw (
+            c,
+            m,
+            no-call c (e .happened .value) 0 (e .happened .reference) (callReference noReference),
+            no-octets (eventOf number 0 (callReference noReference)) (no-message _ _ _) (e .octets) [],
+          )
+
+      by-call : (c : Bool) → carriesCall number ≡ c → stepped own identity x (carriedBy e) ≡ stepped own identity x e
+      by-call true c =
+          rw (
+            c,
+            call-not-received number c,
+            no-octets (eventOf number (e .happened .value) (e .happened .reference)) (no-message _ _ _) (e .octets) [],
+          )
+      by-call false c = by-number c (eqb number 18) refl

@@ -1,0 +1,90 @@
+-- Document 01, "Cases": c1 to c10, logs as bytes and what the judge answers, in one table.
+use Prim.Native.Nat.{ℕ}
+use mathlib.Core.Path.{_≡_, refl}
+use mathlib.Core.List.{List, [], _∷_, _++_}
+use Rattle.codes.specs.Attributes.{weighs}
+use Rattle.context.specs.Context.{startRow, cleared}
+use Rattle.context.specs.Fit.{consistent, timersFit, isCleared, fitOf}
+use Rattle.context.specs.Running.{runs, expiryOf, lengthOf}
+use Rattle.transitions.specs.Table.{stepTable, heardIn, decidedIn, decidedOf}
+use Rattle.call.specs.Events.{seenOf}
+use Rattle.call.specs.Step.{withTimer, parametersAfter, valueAfter, referenceAfter, afterwards, ignored, noStep, carriedOut, stepValue}
+use Rattle.reply.specs.declared.Own.{Own}
+use Rattle.reply.specs.Reply.{replyOf}
+use Rattle.received.specs.Received.{isNotOurs, sameOctets, heardOf}
+use Rattle.radio.specs.Step.{eventOf, onEvent, reactedTo, outOfRange, stepOf}
+use Rattle.number.specs.Number.{joined, groupsAt, numberAt, upTo}
+use Rattle.log.specs.Layout.{carriesCall}
+use Rattle.log.specs.Reading.{smallAt, runAt, callAt, receivedAt, dataAt, claimAt, restAt, entryAt}
+use Rattle.table.specs.Judge.{narrow, turn, judgeFrom, judge}
+use Rattle.table.specs.Reading.{entriesIn, entries}
+use Rattle.table.specs.OneTimer.{judgeOne}
+use Rattle.verdict.specs.declared.Judged.{Judged}
+use Rattle.verdict.specs.declared.Judged.the-variants.{Accepted, Unreadable, Unexplained}
+use Rattle.verdict.specs.Table.{parametersNumber, agree}
+use Rattle.verdict.specs.Judge.{settingsOut, versionJudged, judgeOf}
+
+-- Settings in range; none of these logs asks for what they are.
+abbrev own : Own
+own = record { key = 5; classmark = record { first = 0x33; second = 0x19; third = 0x82 } }
+
+abbrev identity : List ℕ
+identity = 0x08 ∷ 0x49 ∷ 0x26 ∷ 0x10 ∷ []
+
+-- Entries, as milliseconds, event, data; answer, state, parameters, actions, reply length.
+-- Broadcast notified, 0 ms: value 0, reference 01 02 03 04; answer 0, U3, action 1.
+abbrev notified : List ℕ
+notified = 0x00 ∷ 0x0A ∷ 0x00 ∷ 0x01 ∷ 0x02 ∷ 0x03 ∷ 0x04 ∷ 0x00 ∷ 0x04 ∷ 0x00 ∷ 0x01 ∷ 0x00 ∷ []
+
+-- Join, 0 ms: U4, action 4.
+abbrev joins : List ℕ
+joins = 0x00 ∷ 0x03 ∷ 0x00 ∷ 0x05 ∷ 0x00 ∷ 0x04 ∷ 0x00 ∷ []
+
+-- The joining timer expires: U0, actions 9. E0 5D is 12,000.
+abbrev expiresAt12000 : List ℕ
+expiresAt12000 = 0xE0 ∷ 0x5D ∷ 0x10 ∷ 0x00 ∷ 0x00 ∷ 0x00 ∷ 0x09 ∷ 0x00 ∷ []
+
+-- Group receive mode entered: U6, parameters 2 (D-ATT), action 1. 00 is 0, A0 9C 01 is 20,000, B1 EA 01 is 30,001, E1 5D is 12,001.
+abbrev entered : List ℕ
+entered = 0x0B ∷ 0x00 ∷ 0x07 ∷ 0x02 ∷ 0x01 ∷ 0x00 ∷ []
+
+-- No channel: stays in U6, action 1. D0 0F is 2,000.
+abbrev noChannel : List ℕ
+noChannel = 0x0C ∷ 0x00 ∷ 0x07 ∷ 0x02 ∷ 0x01 ∷ 0x00 ∷ []
+
+-- T_no channel expires: U0, actions 9. E8 07 is 1,000, B8 17 is 3,000.
+abbrev noChannelExpires : List ℕ
+noChannelExpires = 0x11 ∷ 0x00 ∷ 0x00 ∷ 0x00 ∷ 0x09 ∷ 0x00 ∷ []
+
+-- In U6, no channel, and again 2,000 ms on.
+abbrev twiceNoChannel : List ℕ
+twiceNoChannel = (0x01 ∷ []) ++ (notified ++ (joins ++ ((0x00 ∷ entered) ++ ((0x00 ∷ noChannel) ++ (0xD0 ∷ 0x0F ∷ noChannel)))))
+
+-- TERMINATION received, 0 ms, acknowledged: 4 octets, 01 34 01 9E.
+abbrev termination : List ℕ
+termination = 0x00 ∷ 0x12 ∷ 0x00 ∷ 0x04 ∷ 0x01 ∷ 0x34 ∷ 0x01 ∷ 0x9E ∷ []
+
+abbrev pub cases : List (List ℕ × Judged)
+cases =
+    (0x01 ∷ [], Accepted 0 10000 30000) ∷  -- c1
+    ([], Unreadable 0) ∷  -- c2
+    (0x01 ∷ 0x00 ∷ 0x03 ∷ 0x03 ∷ 0x00 ∷ 0x00 ∷ 0x00 ∷ 0x00 ∷ [], Accepted 1 10000 30000) ∷  -- c3
+    (0x01 ∷ 0x80 ∷ 0x00 ∷ [], Unreadable 1) ∷  -- c4
+    (0x01 ∷ (notified ++ (joins ++ expiresAt12000)), Accepted 3 12000 12000) ∷  -- c5
+    (0x01 ∷ (notified ++ (joins ++ (0xA0 ∷ 0x9C ∷ 0x01 ∷ entered))), Accepted 3 20000 30000) ∷  -- c6
+    (0x01 ∷ (notified ++ (joins ++ (0xB1 ∷ 0xEA ∷ 0x01 ∷ entered))), Unexplained 3) ∷  -- c7
+    (0x01 ∷ (notified ++ (joins ++ (expiresAt12000 ++ (notified ++ (joins ++ (0xE1 ∷ 0x5D ∷ entered)))))), Unexplained 6) ∷  -- c8
+    (0x01 ∷ (termination ++ (0x01 ∷ 0x00 ∷ 0x00 ∷ 0x00 ∷ 0x00 ∷ [])), Accepted 1 10000 30000) ∷  -- c9: answer 1
+    (0x01 ∷ (termination ++ (0x00 ∷ 0x00 ∷ 0x00 ∷ 0x00 ∷ 0x00 ∷ [])), Unexplained 1) ∷  -- and not 0
+    (twiceNoChannel ++ (0xE8 ∷ 0x07 ∷ noChannelExpires), Accepted 6 10000 30000) ∷  -- c10: 3,000 ms after the first
+    (twiceNoChannel ++ (0xB8 ∷ 0x17 ∷ noChannelExpires), Unexplained 6) ∷  -- and not after the second
+    []
+
+-- Each log of a table is answered so.
+abbrev pub Answered : List (List ℕ × Judged) → Type 0
+Answered [] = Unit {0}
+Answered (c ∷ cs) = (judgeOf own identity (c .0) ≡ c .1) × Answered cs
+
+pub all-cases : Answered cases
+unfolding judgeOf versionJudged settingsOut judgeOne judge judgeFrom turn narrow entries entriesIn numberAt groupsAt joined upTo smallAt runAt callAt receivedAt dataAt claimAt restAt entryAt carriesCall agree parametersNumber weighs stepOf outOfRange reactedTo eventOf onEvent stepValue seenOf carriedOut decidedOf decidedIn stepTable heardIn noStep ignored afterwards withTimer parametersAfter startRow valueAfter referenceAfter cleared fitOf consistent timersFit isCleared runs expiryOf lengthOf replyOf heardOf isNotOurs sameOctets
+all-cases = (refl, (refl, (refl, (refl, (refl, (refl, (refl, (refl, (refl, (refl, (refl, (refl, tt))))))))))))
