@@ -160,19 +160,19 @@ rows-fresh : (s : State) → inTable (fresh s) s stepTable ≡ true
 unfolding stepTable timersFit
 rows-fresh = at-state (λ s. inTable (fresh s) s stepTable) refl
 
-abbrev Sets : Context → ℕ → Decision → Type 0
-Sets x n (Take next actions sends stops sets) = eqb n 12 ≡ false → runsIn sets (x .timers) ≡ false
-Sets x n NoStep = Unit {0}
-Sets x n Ignore = Unit {0}
-Sets x n (Report cause) = Unit {0}
-Sets x n TellStatus = Unit {0}
-Sets x n SetParameters = Unit {0}
+abbrev pub SetsFresh : Context → ℕ → Decision → Type 0
+SetsFresh x n (Take next actions sends stops sets) = eqb n 12 ≡ false → runsIn sets (x .timers) ≡ false
+SetsFresh x n NoStep = Unit {0}
+SetsFresh x n Ignore = Unit {0}
+SetsFresh x n (Report cause) = Unit {0}
+SetsFresh x n TellStatus = Unit {0}
+SetsFresh x n SetParameters = Unit {0}
 
 -- In a fit context no event but 12, no channel, sets a timer that runs; and 12 leaves T_no channel running.
-pub sets-fresh : (x : Context) → fitOf x ≡ true → (n code : ℕ) → Sets x n (decidedOf x n code)
+pub sets-fresh : (x : Context) → fitOf x ≡ true → (n code : ℕ) → SetsFresh x n (decidedOf x n code)
 unfolding decidedOf
 sets-fresh x fit n code =
-    decided-holds (fresh (x .state)) (Sets x) (x .state) x
+    decided-holds (fresh (x .state)) (SetsFresh x) (x .state) x
     (λ k next actions sends stops sets e f.
     not-true _
     (if-so _ _

@@ -3,7 +3,7 @@ ghost use mathlib.Core.Path.{_≡_};
 ghost use Rattle.context.specs.States.{numberOf, flagOf};
 ghost use Rattle.context.specs.Context.{startRow, cleared};
 ghost use Rattle.context.specs.Fit.{consistent, timersFit, isCleared, fitOf};
-ghost use Rattle.context.specs.Running.{runs};
+ghost use Rattle.context.specs.Running.{runs, expiryOf, lengthOf};
 use codes::attributes::Parameters;
 use codes::state::State;
 use message::Reference;
@@ -203,4 +203,30 @@ pub fn running_timer(context: Context) -> u8
         return 4;
     }
     0
+}
+
+// The number of the timer whose expiry an event is, 0 where it is none.
+pub fn expired_timer(event: u32) -> u8
+    ensures { λ r. ⌜ r ≡ expiryOf event ⌝ }
+{
+    match event {
+        14 => 1,
+        15 => 2,
+        16 => 3,
+        17 => 4,
+        _ => 0,
+    }
+}
+
+// The length of the timer of a number, in milliseconds, where the joining timer is set to `joining`; 0 for no timer.
+pub fn timer_length(joining: u32, timer: u8) -> u32
+    ensures { λ r. ⌜ r ≡ lengthOf joining timer ⌝ }
+{
+    match timer {
+        1 => Timers::MM_EST,
+        2 => Timers::TERM,
+        3 => joining,
+        4 => Timers::NO_CHANNEL,
+        _ => 0,
+    }
 }

@@ -151,9 +151,8 @@ fn tell_cause_part(octets: &[u8], cause: Run) {
     let count = cause.count;
     tell_first_part(octet_at(octets, start));
     if 1 < count {
-        tell(b" with diagnostics of ");
+        tell(b" with further octets: ");
         tell_place(count - 1);
-        tell(b" octets");
     }
 }
 

@@ -36,20 +36,33 @@ pub fn tell_apart(octets: &[u8]) -> u8 {
         Reading::TooLong => tell_too_long(octets),
         Reading::Unreadable(fault) => tell_unreadable(octets, fault),
         Reading::Is {
-            flag: _,
+            flag,
             value,
             message,
-        } => tell_message(octets, value, message),
+        } => tell_message(octets, flag, value, message),
     }
 }
 
-fn tell_message(octets: &[u8], value: u8, message: Message) -> u8 {
+// The summary: kind, direction, transaction, length.
+fn tell_summary(octets: &[u8], flag: bool, value: u8) {
     tell_kind(octet_at(octets, 1) % 64);
     tell(b", transaction value ");
     tell_number(value);
-    tell(b", ");
+    tell_flag(flag);
     tell_place(octets.len());
     tell(b" octets\n");
+}
+
+fn tell_flag(flag: bool) {
+    if flag {
+        tell(b", flag 1, ");
+        return;
+    }
+    tell(b", flag 0, ");
+}
+
+fn tell_message(octets: &[u8], flag: bool, value: u8, message: Message) -> u8 {
+    tell_summary(octets, flag, value);
     tell_heads(octets);
     tell_fields(octets, message);
     0
@@ -205,7 +218,7 @@ fn tell_caused(octets: &[u8], cause: Run, kind: u8) {
     let count = cause.count;
     tell_length(2, count, b"length of the cause ");
     tell_cause_part(octet_at(octets, start));
-    tell_diagnostics(octets, std::num::wrapping_add_usize(start, 1), count);
+    tell_behind_cause(octets, std::num::wrapping_add_usize(start, 1), count);
     tell_optional(octets, std::num::wrapping_add_usize(start, count), kind);
 }
 
@@ -214,18 +227,29 @@ fn tell_cause_part(first: u8) {
     tell(b"octet 4: cause ");
     tell_number(first % 128);
     tell(b", ");
-    tell_cause(first % 128);
     if 128 <= first {
+        tell_cause(first % 128);
         tell(b"\n");
         return;
     }
-    tell(b"; bit 8 is 0, so another cause part follows and the whole is an unspecific cause\n");
+    tell(b"unspecific cause: bit 8 is 0, so it has more than one cause part\n");
 }
 
-fn tell_diagnostics(octets: &[u8], start: usize, count: usize) {
-    if 1 < count {
-        tell_run(octets, start, count - 1, b"diagnostics ");
+// What stands behind the first cause part. `start` is its place, `count` the count of the whole cause.
+fn tell_behind_cause(octets: &[u8], start: usize, count: usize) {
+    if count < 2 {
+        return;
     }
+    if 128 <= octet_at(octets, 3) {
+        tell_run(octets, start, count - 1, b"diagnostics ");
+        return;
+    }
+    tell_run(
+        octets,
+        start,
+        count - 1,
+        b"further cause parts and diagnostics ",
+    );
 }
 
 // ---- optional elements

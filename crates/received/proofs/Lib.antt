@@ -2,3 +2,4 @@ pub mod Lying
 pub mod Comparing
 pub mod Rules
 pub mod Coincide
+pub mod Faults

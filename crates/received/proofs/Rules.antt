@@ -39,11 +39,11 @@ module _ (identity s : List ℕ) (m : Message) (named : Identity) (e : m ≡ Get
   run-within run p w = rw (e, p) at w
 
 -- What rule 1 lets through has two octets.
-either-false : (a b : Bool) → (a || b) ≡ false → b ≡ false
+pub either-false : (a b : Bool) → (a || b) ≡ false → b ≡ false
 either-false true b e = never (sym e)
 either-false false b e = e
 
-first-false : (a b : Bool) → (a || b) ≡ false → a ≡ false
+pub first-false : (a b : Bool) → (a || b) ≡ false → a ≡ false
 first-false true b e = e
 first-false false b e = refl
 
