@@ -3,3 +3,4 @@ pub mod Claiming
 pub mod Explaining
 pub mod Mirror
 pub mod Walk
+pub mod Coincide

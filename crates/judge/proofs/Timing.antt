@@ -1,11 +1,11 @@
 -- The time of an entry: the judge's tests by the age of the running timer, one return of the code at a time.
-use Prim.Native.Nat.{ℕ, _+_, _-_, _≤_, _<_, min, max}
-use mathlib.Core.Path.{_≡_, refl, sym, ap, _∙_}
-use mathlib.Core.Bool.{Bool, true, false, cond, not, _&&_, _||_}
-use mathlib.Core.List.{List, [], _∷_}
+use Prim.Native.Nat.{ℕ, _+_, _-_, _≤_, _<_}
+use mathlib.Core.Path.{_≡_, sym}
+use mathlib.Core.Bool.{Bool, true, false}
+use mathlib.Core.List.{List}
 use native.Mathlib.Omega.{arith}
-use lib.Dec.{eqb, leb, ltb}
-use borrow.Author.Tests.{ne-eqb, eq-eqb, lt-ltb, le-ltb}
+use lib.Dec.{eqb}
+use borrow.Author.Tests.{ne-eqb, lt-ltb, le-ltb}
 use Rattle.octets.proofs.Choice.{cond-same}
 use Rattle.codes.specs.Attributes.{weighs}
 use Rattle.context.specs.declared.Context.{Context}
@@ -15,7 +15,6 @@ use Rattle.number.specs.Number.{numberAt}
 use Rattle.number.specs.declared.Number.the-variants.{Value, Unreadable as NoNumber}
 use Rattle.judge.specs.declared.Begun.the-variants.{At, NoVersion}
 use Rattle.judge.specs.declared.Track.{Track}
-use Rattle.judge.specs.declared.Turned.{Turned}
 use Rattle.judge.specs.declared.Turned.the-variants.{Onward, Stuck}
 use Rattle.judge.specs.declared.Why.the-variants.{OutOfTime, NoTimerLeft}
 use Rattle.judge.specs.Turn.{untimelyAt, leastLeft, greatestLeft, startedAt, inTimeOf, begunOf}

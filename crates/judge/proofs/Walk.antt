@@ -1,10 +1,10 @@
 -- The judge's loop: before each turn, what is left of the log gives the whole answer.
 use Prim.Native.Nat.{ℕ, _+_, _-_, _*_, _≤_, _<_}
-use mathlib.Core.Path.{_≡_, refl, sym, ap, subst, _∙_}
-use mathlib.Core.Bool.{Bool, true, false, cond, not, _&&_, _||_}
+use mathlib.Core.Path.{_≡_, refl, ap, subst}
+use mathlib.Core.Bool.{Bool, true, false, cond}
 use mathlib.Core.List.{List}
 use native.Mathlib.Omega.{arith}
-use lib.Dec.{eqb, leb, ltb}
+use lib.Dec.{eqb}
 use lib.ListN.{length}
 use borrow.Author.Tests.{le-ltb, lt-ltb, eqb-true}
 use Rattle.context.specs.Context.{cleared}
@@ -19,10 +19,10 @@ use Rattle.log.specs.declared.Found.{Found}
 use Rattle.log.specs.declared.Found.the-variants.{Read, Unreadable}
 use Rattle.log.specs.Reading.{entryAt, meant}
 use Rattle.log.proofs.Progress.{EntryRight, Sound, entry-right}
+use Rattle.table.specs.Steps.{Steps}
 use Rattle.table.specs.Judge.{judge, judgeFrom}
 use Rattle.table.specs.OneTimer.{oneTimer, told, judgeOne}
 use Rattle.table.proofs.Walk.{walk-end, walk-torn, walk-stuck, walk-onward, turn-time, turn-ordered}
-use Rattle.verdict.specs.declared.Judged.{Judged}
 use Rattle.verdict.specs.declared.Judged.the-variants.{Accepted, Unreadable as UnreadableAt, Unexplained, TooLong, OutOfRange}
 use Rattle.verdict.specs.Table.{steps, joining}
 use Rattle.verdict.specs.Entries.{entryOf, readOf, reader}
@@ -34,16 +34,19 @@ use Rattle.judge.specs.declared.Turned.{Turned}
 use Rattle.judge.specs.declared.Turned.the-variants.{Onward, Torn, Stuck, Astray}
 use Rattle.judge.specs.declared.Why.{Why}
 use Rattle.judge.specs.Turn.{onFound, explainedOf, astray, turnOf, begunOf}
-use Rattle.judge.proofs.Mirror.{momentOf, intervalOf, Mirrors, Goes, explain-mirrors}
+use Rattle.judge.proofs.Mirror.{momentOf, intervalOf, Mirrors, explain-mirrors}
 
 module _ (own : Own) (identity s : List ℕ) where
+  abbrev 𝓢 : Steps
+  𝓢 = steps 1 own identity
+
   pub record Loop (t : Track) : Type 0 where
     pub short : length s ≤ 65536
     pub inside : t .place ≤ length s
     pub ordered : t .started ≤ t .time
     pub timed : t .time ≤ 86400000 * t .place
     pub counted : t .entries ≤ t .place
-    pub same : judgedOf (told (judgeFrom (steps 1 own identity) (oneTimer joining) (momentOf own identity s t t) (intervalOf own identity s t t, true) (t .entries) (entriesAt 1 own identity s (t .place))))
+    pub same : judgedOf (told (judgeFrom 𝓢 (oneTimer joining) (momentOf own identity t) (intervalOf t, true) (t .entries) (entriesAt 1 own identity s (t .place))))
         ≡ judgeOf own identity s
 
   -- ---- the tests before the loop, and its beginning
@@ -93,7 +96,7 @@ module _ (own : Own) (identity s : List ℕ) where
   module _ (t : Track) (l : Loop t) where
     pub loop-end : length s ≤ t .place → Accepted (t .entries) (t .least) (t .greatest) ≡ judgeOf own identity s
     loop-end h =
-        rw (walk-end (steps 1 own identity) (oneTimer joining) (reader 1 own identity) s (t .place) (momentOf own identity s t t) (intervalOf own identity s t t, true) (t .entries) h) at (l .same)
+        rw (walk-end 𝓢 (oneTimer joining) (reader 1 own identity) s (t .place) (momentOf own identity t) (intervalOf t, true) (t .entries) h) at (l .same)
 
     -- ---- a turn
 
@@ -115,7 +118,7 @@ module _ (own : Own) (identity s : List ℕ) where
 
       torn : (place : ℕ) → entryAt s (t .place) ≡ Unreadable place → UnreadableAt (t .entries + 1) ≡ judgeOf own identity s
       torn place q =
-          rw (walk-torn (steps 1 own identity) (oneTimer joining) (reader 1 own identity) s (t .place) (momentOf own identity s t t) (intervalOf own identity s t t, true) (t .entries) h
+          rw (walk-torn 𝓢 (oneTimer joining) (reader 1 own identity) s (t .place) (momentOf own identity t) (intervalOf t, true) (t .entries) h
           (ap (readOf 1 own identity s) q)) at (l .same)
 
       module _ (e : Entry) (place : ℕ) (q : entryAt s (t .place) ≡ Read e place) where
@@ -127,20 +130,20 @@ module _ (own : Own) (identity s : List ℕ) where
           record {
             short = l .short;
             inside = omega (arith, g .place-is, sound .inside);
-            ordered = turn-ordered (steps 1 own identity) (oneTimer joining) (momentOf own identity s t t) (intervalOf own identity s t t, true) (entryOf 1 own identity (meant s e)) _ _ (g .turns) (l .ordered);
+            ordered = turn-ordered 𝓢 (oneTimer joining) (momentOf own identity t) (intervalOf t, true) (entryOf 1 own identity (meant s e)) _ _ (g .turns) (l .ordered);
             timed = let w : u .time ≡ t .time + e .delta
-                = turn-time (steps 1 own identity) (oneTimer joining) (momentOf own identity s t t) (intervalOf own identity s t t, true) (entryOf 1 own identity (meant s e)) (momentOf own identity s t u) (intervalOf own identity s t u, true) (g .turns) in
+                = turn-time 𝓢 (oneTimer joining) (momentOf own identity t) (intervalOf t, true) (entryOf 1 own identity (meant s e)) (momentOf own identity u) (intervalOf u, true) (g .turns) in
                 omega (arith, l .timed, g .place-is, sound .on, sound .delta);
             counted = omega (arith, l .counted, g .place-is, g .entries-is, sound .on);
             same = rw (g .place-is, g .entries-is)
-                (rw (walk-onward (steps 1 own identity) (oneTimer joining) (reader 1 own identity) s (t .place) (momentOf own identity s t t) (intervalOf own identity s t t, true) (t .entries) h
+                (rw (walk-onward 𝓢 (oneTimer joining) (reader 1 own identity) s (t .place) (momentOf own identity t) (intervalOf t, true) (t .entries) h
                 (entryOf 1 own identity (meant s e)) place (ap (readOf 1 own identity s) q) _ _ (g .turns)) at (l .same));
           },
           omega (arith, g .place-is, sound .on),
         )
         explained (Torn at) g = absurd g
         explained (Stuck why) g =
-            rw (walk-stuck (steps 1 own identity) (oneTimer joining) (reader 1 own identity) s (t .place) (momentOf own identity s t t) (intervalOf own identity s t t, true) (t .entries) h
+            rw (walk-stuck 𝓢 (oneTimer joining) (reader 1 own identity) s (t .place) (momentOf own identity t) (intervalOf t, true) (t .entries) h
             (entryOf 1 own identity (meant s e)) place (ap (readOf 1 own identity s) q) g) at (l .same)
         explained Astray g = absurd g
 
@@ -168,5 +171,5 @@ module _ (own : Own) (identity s : List ℕ) where
       pub is-stuck : (why : Why) → turnOf own identity s t ≡ Stuck why → Unexplained (t .entries + 1) ≡ judgeOf own identity s
       is-stuck why q = turned (Stuck why) q
 
-      pub never-astray : turnOf own identity s t ≡ Astray → Unexplained (t .entries + 1) ≡ judgeOf own identity s
+      pub never-astray : turnOf own identity s t ≡ Astray → TooLong ≡ judgeOf own identity s
       never-astray q = absurd (turned Astray q)

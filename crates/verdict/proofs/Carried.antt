@@ -1,10 +1,9 @@
 -- What an event does not carry has no effect on its step.
 use Prim.Native.Nat.{ℕ}
-use mathlib.Core.Path.{_≡_, refl, sym, ap, _∙_}
-use mathlib.Core.Bool.{Bool, true, false, cond, not, _&&_, _||_}
+use mathlib.Core.Path.{_≡_, refl, sym}
+use mathlib.Core.Bool.{Bool, true, false, not, _||_}
 use mathlib.Core.List.{List, [], _∷_}
-use lib.Dec.{eqb, ltb}
-use lib.ListN.{length}
+use lib.Dec.{eqb}
 use borrow.Author.Tests.{eqb-true}
 use Rattle.octets.specs.Rows.{rows}
 use Rattle.octets.proofs.Choice.{at-cond, never}
@@ -18,14 +17,12 @@ use Rattle.transitions.specs.declared.Decision.{Decision}
 use Rattle.transitions.specs.declared.Decision.the-variants.{Take, NoStep, Ignore, Report, TellStatus, SetParameters}
 use Rattle.transitions.specs.Table.{stepTable, decidedOf}
 use Rattle.transitions.proofs.Every.{Test, inTable, decided-holds}
-use Rattle.call.specs.declared.Event.{Event as CallEvent}
 use Rattle.call.specs.declared.Seen.{Seen}
 use Rattle.call.specs.declared.Stepped.{Stepped as Taken}
 use Rattle.call.specs.Events.{seenOf}
 use Rattle.call.specs.Step.{ignored, noStep, carriedOut, stepValue}
 use Rattle.reply.specs.declared.Own.{Own}
 use Rattle.reply.specs.Reply.{replyOf}
-use Rattle.radio.specs.declared.Happened.{Happened}
 use Rattle.radio.specs.declared.Told.{Told}
 use Rattle.radio.specs.declared.Told.the-variants.{Is, NoEvent}
 use Rattle.radio.specs.Step.{events, eventOf, onEvent, reactedTo, outOfRange, reacted, stepOf}

@@ -1,11 +1,11 @@
 -- What each step of our table keeps: a fit context stays fit, an answer is 0 to 3 unless the step is refused, and a refusal changes nothing.
-use Prim.Native.Nat.{ℕ}
+use Prim.Native.Nat.{ℕ, _≤_}
 use mathlib.Core.Path.{_≡_, refl, sym, _∙_}
-use mathlib.Core.Bool.{Bool, true, false, cond, not, _&&_}
+use mathlib.Core.Bool.{true, false, not, _&&_}
 use mathlib.Core.List.{List}
 use lib.Dec.{eqb, leb, ltb}
 use lib.ListN.{length, getD}
-use borrow.Author.Tests.{not-false}
+use borrow.Author.Tests.{not-false, le-ltb}
 use Rattle.octets.proofs.Choice.{at-cond, never}
 use Rattle.message.specs.declared.Message.{Message}
 use Rattle.message.specs.declared.Reading.{Reading}
@@ -49,6 +49,12 @@ module _ (own : Own) (identity : List ℕ) (x : Context) (e : Event) (P : Reacti
       at-cond P (eqb (e .happened .number) 18 && ltb 251 (length (e .octets))) _ _ (λ c. no 6) λ c.
       at-cond P (outOfRange (own .key) (length identity) (e .happened)) _ _ (λ d. no 4) λ d.
       yes-way (not-false (fitOf x) a) d
+
+-- A step that is handed a longer reply buffer is the same step.
+pub any-room : (own : Own) (identity : List ℕ) (room : ℕ) (x : Context) (e : Event) → 255 ≤ room
+    → stepOf own identity room x (e .happened) (e .octets) ≡ stepped own identity x e
+unfolding stepOf
+any-room own identity room x e h = rw (le-ltb room 255 h)
 
 -- ---- every context come to is fit
 

@@ -1,35 +1,33 @@
 -- "A log our recorder wrote from true steps is always accepted": on the bytes that the recorder leaves.
 use Prim.Native.Nat.{ℕ, _+_, _≤_, _<_}
-use mathlib.Core.Path.{_≡_, refl, sym, ap, subst, _∙_}
+use mathlib.Core.Path.{_≡_, refl, sym, ap, _∙_}
 use mathlib.Core.Bool.{Bool, true, false, cond}
 use mathlib.Core.List.{List, [], _∷_, _++_, append-assoc, append-nil}
 use native.Mathlib.Omega.{arith}
-use lib.Dec.{eqb, leb}
+use lib.Dec.{eqb}
 use lib.ListN.{length, take}
 use lib.Seq.{length-take-le}
 use borrow.Author.Tests.{lt-leb}
 use Rattle.context.specs.declared.Context.{Context}
 use Rattle.reply.specs.declared.Own.{Own}
-use Rattle.number.specs.Number.{grouped, groupsAt, numberAt}
+use Rattle.number.specs.Number.{groupsAt, numberAt}
 use Rattle.number.specs.declared.Number.the-variants.{Value}
-use Rattle.log.specs.Layout.{Meant, carriesCall, written, ranged, kept, entries as layout, whole}
+use Rattle.log.specs.Layout.{Meant, carriesCall, ranged, kept, entries as layout, whole}
 use Rattle.log.proofs.ReadBack.{kept-written, kept-ranged}
 use Rattle.recorder.specs.Recording.{Records, soFar}
 use Rattle.recorder.specs.declared.Recorded.the-variants.{Used}
 use Rattle.recorder.proofs.Growth.{grown, length-kept, log-grows, version-byte}
 use Rattle.table.specs.Steps.{Steps}
-use Rattle.table.specs.Log.{Entry, Moment, begin, next, Explained as EntryExplained, Explains}
+use Rattle.table.specs.Log.{Entry, Moment, begin, next, Explains}
 use Rattle.table.specs.Timers.{Interval, Within}
-use Rattle.table.specs.Verdict.{accepted}
-use Rattle.table.specs.Judge.{judge}
 use Rattle.table.specs.Reading.{asLog, written as writtenBy, AllFine}
 use Rattle.table.specs.OneTimer.{oneTimer, lengthsWith, InRange, told, judgeOne}
 use Rattle.table.specs.Recorded.{Move, entryOf, recorded, MadeInTime}
 use Rattle.table.proofs.OneTimer.{one-timer-laws}
 use Rattle.table.proofs.Complete.{recorded-explained, written-accepted}
 use Rattle.verdict.specs.declared.Judged.the-variants.{Accepted}
-use Rattle.verdict.specs.Table.{Event, steps, joining, recordable}
-use Rattle.verdict.specs.Entries.{logReference, callReference, carriedBy, meantBy, carriedEntry, reader, writer, Writable}
+use Rattle.verdict.specs.Table.{steps, joining, recordable}
+use Rattle.verdict.specs.Entries.{carriedBy, meantBy, carriedEntry, writer}
 use Rattle.verdict.specs.Judge.{settingsOut, judgedOf, judgeOf}
 use Rattle.verdict.specs.Demand.{Begins}
 use Rattle.verdict.specs.Host.{Recording}
@@ -145,22 +143,26 @@ module _ (version : ℕ) (own : Own) (identity : List ℕ) where
 
 -- ---- the promise
 
--- A host makes steps from a cleared context on, under settings in range and one joining timer from 10,000 to 30,000 ms, each within the time rules. The
--- recorder is called after every step answered 0 to 3, from nothing used on, and takes each entry. Then the bytes used are accepted: every entry,
--- with the timer between the least and the greatest.
 version-reads : (rest : List ℕ) → numberAt (1 ∷ rest) 0 ≡ Value 1 1
 unfolding numberAt groupsAt
 version-reads rest = rw (lt-leb (length (1 ∷ rest)) 0 (omega arith))
 
+-- "A log our recorder wrote from true steps is always accepted."
+-- A host makes steps from a cleared context on, under settings in range and one joining timer from 10,000 to 30,000 ms, each within the time rules. The
+-- recorder is called after every step answered 0 to 3, from nothing used on, and takes each entry. Then the bytes used are accepted: every entry,
+-- with the timer between the least and the greatest.
 module _ (own : Own) (identity : List ℕ) (settings : settingsOut (own .key) (length identity) ≡ false) (T : ℕ) (in-range : InRange joining T)
     (ms : List (Move (steps 1 own identity))) (made : MadeInTime (steps 1 own identity) (recordable own identity) (lengthsWith joining T) ms (begin (steps 1 own identity)) 0)
     (before after : List ℕ) (total : ℕ) (recording : Recording 1 own identity ms (steps 1 own identity .cleared) 0 0 before after total) (some : 0 < total) where
-  abbrev es : List (Entry (steps 1 own identity))
-  es = recorded (steps 1 own identity) (recordable own identity) ms (steps 1 own identity .cleared) 0
+  abbrev 𝓢₁ : Steps
+  𝓢₁ = steps 1 own identity
+
+  abbrev es : List (Entry 𝓢₁)
+  es = recorded 𝓢₁ (recordable own identity) ms (𝓢₁ .cleared) 0
 
   grows : Grows 1 own identity [] es 0 before after total
   unfolding soFar
-  grows = recording-grows 1 own identity ms (steps 1 own identity .cleared) 0 0 before after total [] refl (omega arith) recording
+  grows = recording-grows 1 own identity ms (𝓢₁ .cleared) 0 0 before after total [] refl (omega arith) recording
 
   used : length (take total after) ≡ total
   used = length-take-le total after (grows .inside)
@@ -169,7 +171,7 @@ module _ (own : Own) (identity : List ℕ) (settings : settingsOut (own .key) (l
   unfolding soFar whole
   bytes = go es (grows .bytes)
     where
-      go : (fs : List (Entry (steps 1 own identity))) → take total after ≡ soFar (meantAll 1 own identity fs)
+      go : (fs : List (Entry 𝓢₁)) → take total after ≡ soFar (meantAll 1 own identity fs)
           → take total after ≡ (1 ∷ []) ++ writtenBy (writer 1 own identity) (carriedAll 1 own identity fs)
       go [] q = let z : total ≡ 0 = sym used ∙ ap length q in absurd (omega (arith, some))
       go (f ∷ fs) q = q ∙ ap (λ (v : List ℕ). v ++ layout (meantAll 1 own identity (f ∷ fs))) version-byte ∙ ap (λ (r : List ℕ). 1 ∷ r) (sym (carried-written 1 own identity (f ∷ fs)))
@@ -182,8 +184,8 @@ module _ (own : Own) (identity : List ℕ) (settings : settingsOut (own .key) (l
         place = 1;
         version = rw bytes (version-reads (writtenBy (writer 1 own identity) (carriedAll 1 own identity es)));
       } in
-      let x = carried-explained 1 own identity (lengthsWith joining T) es (begin (steps 1 own identity))
-      (recorded-explained (steps 1 own identity) (recordable own identity) (still 1 own identity) (lengthsWith joining T) ms (begin (steps 1 own identity)) 0 made) in
-      let w = written-accepted (steps 1 own identity) (oneTimer joining) (steps-laws 1 own identity) (one-timer-laws joining (omega arith)) (writer 1 own identity)
+      let x = carried-explained 1 own identity (lengthsWith joining T) es (begin 𝓢₁)
+      (recorded-explained 𝓢₁ (recordable own identity) (still 1 own identity) (lengthsWith joining T) ms (begin 𝓢₁) 0 made) in
+      let w = written-accepted 𝓢₁ (oneTimer joining) (steps-laws 1 own identity) (one-timer-laws joining (omega arith)) (writer 1 own identity)
       (T, tt) (in-range, tt) (carriedAll 1 own identity es) (carried-fine 1 own identity es (grows .in-range)) x (1 ∷ []) (take total after) bytes in
       (w .0 .0, judged-begins own identity (take total after) b ∙ ap judgedOf (ap told (w .1)) ∙ ap (λ (n : ℕ). Accepted n (w .0 .0 .least) (w .0 .0 .greatest)) (carried-count 1 own identity es), w .2 .0)

@@ -1,9 +1,9 @@
 -- No row sets anew a timer that runs; so the start of the running timer that the judge derives is the time of the entry that set it.
 use Prim.Native.Nat.{ℕ}
-use mathlib.Core.Path.{_≡_, refl, sym, ap, subst, _∙_}
+use mathlib.Core.Path.{_≡_, refl, sym}
 use mathlib.Core.Bool.{Bool, true, false, cond, not, _&&_, _||_}
-use mathlib.Core.List.{List, [], _∷_}
-use lib.Dec.{eqb, leb}
+use mathlib.Core.List.{List}
+use lib.Dec.{eqb}
 use lib.ListN.{length, getD, replicate}
 use borrow.Author.Tests.{not-true, eqb-true, eqb-false, eq-eqb, ne-eqb}
 use Rattle.octets.proofs.Choice.{at-cond, never}
@@ -35,8 +35,6 @@ use Rattle.context.proofs.Whole.{and-left, and-right, if-so, at-state, ofTimers
 use Rattle.context.proofs.Fit.{fit-timers}
 use Rattle.transitions.specs.declared.Timer.{Timer}
 use Rattle.transitions.specs.declared.Send.the-variants as Send
-use Rattle.transitions.specs.declared.Decision.{Decision}
-use Rattle.transitions.specs.declared.Decision.the-variants.{Take, NoStep, Ignore, Report, TellStatus, SetParameters}
 use Rattle.transitions.specs.Table.{stepTable, decidedOf}
 use Rattle.transitions.proofs.Every.{Test, inTable, decided-holds}
 use Rattle.call.specs.declared.Event.{Event as CallEvent}

@@ -1,7 +1,6 @@
 -- `in_time` meets its contract: each of its three ways is one of the definition's.
 use borrow.Author.Needs.{needs}
 use mathlib.Core.Path.{sym, _∙_}
-use native.Mathlib.Omega.{arith}
 use Rattle.judge.proofs.Timing.{is-late, none-left, goes-on}
 use Rattle.judge.proofs.in_time.Statement.{statement}
 use Rattle.judge.proofs.in_time.Tie as tie
