@@ -7,6 +7,7 @@ pub(crate) fn complain_usage() {
         b"usage: heidezirkel message HEX..   takes a message apart in words\n       \
           heidezirkel settings FILE    says what a settings file sets, or where it is refused\n       \
           heidezirkel show LOG         says what a log holds, a line an entry\n       \
+          heidezirkel judge SETTINGS LOG   says whether a log is what a radio does, and with which joining timer\n       \
           heidezirkel probe            answers commands on standard input\n       \
           heidezirkel --help           says more; so does WORD --help\n",
     );
@@ -19,6 +20,7 @@ pub(crate) fn tell_help() {
           message HEX..   takes a message apart in words\n  \
           settings FILE   says what a settings file sets, or at which line it is refused and why\n  \
           show LOG        says what a log holds, a line an entry\n  \
+          judge SETTINGS LOG   says whether a log is what a radio does, and with which joining timer\n  \
           probe           answers commands on standard input, a line each\n  \
           WORD --help     says more of a word\n\
           Exit status: 0 fine, 1 refused, 2 could not run.\n",
@@ -66,5 +68,15 @@ pub(crate) fn tell_show_help() {
           Says what a log holds, a line an entry: its time, event, message, states, parameters, actions and reply.\n\
           An entry that can't be read is told with its number, the byte place and what is wrong. It judges nothing.\n\
           Exit status: 0 every entry is read, 1 one is not, 2 the file can't be opened.\n",
+    );
+}
+
+pub(crate) fn tell_judge_help() {
+    tell(
+        b"usage: heidezirkel judge SETTINGS LOG\n\
+          Says whether one joining timer, the same all through, explains every entry of the log from a cleared context,\n\
+          and which timers do; or the first entry that can't be read or up to which none does, what it claims, and what the\n\
+          step gives or which time rule it breaks. A settings file that is refused stops it at its line.\n\
+          Exit status: 0 accepted, 1 refused, 2 a file can't be opened.\n",
     );
 }

@@ -14,6 +14,7 @@ use filing::Filed;
 use filing::read_file;
 use help::complain_usage;
 use help::tell_help;
+use help::tell_judge_help;
 use help::tell_message_help;
 use help::tell_probe_help;
 use help::tell_settings_help;
@@ -21,11 +22,14 @@ use help::tell_show_help;
 use input::line_room;
 use input::octets_room;
 use input::stream;
+use judge_words::tell_judged;
 use log_words::tell_log;
 use message_words::tell_apart;
 use saying::complain;
 use saying::flush;
 use saying::tell_verdict;
+use settings::Settings;
+use settings::read_settings;
 use settings_words::tell_settings;
 use text::hex::read_hex;
 use text::words::part;
@@ -150,6 +154,49 @@ fn run_show() {
     tell_verdict(tell_log(part(&log, 0, count)));
 }
 
+// The settings file and the log of `judge`. A settings file that is refused stops it at its line.
+fn run_judge() {
+    if asks_help(2) {
+        tell_judge_help();
+        tell_verdict(0);
+        return;
+    }
+    if os::arg_count() != 4 {
+        complain(b"heidezirkel judge: takes two arguments, a settings file and a log\n");
+        tell_verdict(2);
+        return;
+    }
+    let mut name = io::buffer();
+    let length = os::arg(2, &mut name);
+    let mut file = io::large_buffer();
+    let filed = read_file(b"judge", part(&name, 0, length), &mut file);
+    if !filed.good {
+        tell_verdict(2);
+        return;
+    }
+    let count = filed.count;
+    let read = read_settings(part(&file, 0, count));
+    if read.answer != 0 {
+        let verdict = tell_settings(part(&name, 0, length), part(&file, 0, count), filed.whole);
+        tell_verdict(verdict);
+        return;
+    }
+    let settings = read.settings;
+    tell_verdict(judge_log(settings));
+}
+
+fn judge_log(settings: Settings) -> u8 {
+    let mut name = io::buffer();
+    let length = os::arg(3, &mut name);
+    let mut log = log_room();
+    let filed = read_file(b"judge", part(&name, 0, length), &mut log);
+    if !filed.good {
+        return 2;
+    }
+    let count = filed.count;
+    tell_judged(settings, part(&log, 0, count))
+}
+
 fn main() {
     let mut argument = io::buffer();
     let count = os::arg(1, &mut argument);
@@ -164,6 +211,10 @@ fn main() {
     }
     if same(word, b"settings") {
         run_settings();
+        return;
+    }
+    if same(word, b"judge") {
+        run_judge();
         return;
     }
     if same(word, b"show") {
