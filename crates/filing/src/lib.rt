@@ -1,4 +1,4 @@
-// Whole files, read into a lent buffer. What stands in the way is told on standard error, with the program's word and the file's path.
+// Whole files, read into a lent buffer, and new files. What stands in the way is told on standard error, with the program's word and the file's path.
 ghost use Prim.Native.Nat.{_≤_};
 ghost use lib.ListN.{length};
 use saying::complain;
@@ -96,6 +96,13 @@ fn complain_of(word: &[u8], path: &[u8], error: i32) {
         complain_why(path, b"this file may not be read: permission denied\n");
         return;
     }
+    if error == libc::EEXIST {
+        complain_why(
+            path,
+            b"there is such a file already, and none is written over: take another name or move it away\n",
+        );
+        return;
+    }
     os::fail(path);
 }
 
@@ -103,4 +110,30 @@ fn complain_why(path: &[u8], why: &[u8]) {
     complain(path);
     complain(b": ");
     complain(why);
+}
+
+// Makes a file that is not there yet, and answers a descriptor to write to, or -1. A file that is there stays as it is.
+pub fn create_file(word: &[u8], path: &[u8]) -> i32 {
+    let descriptor = os::create(path);
+    if descriptor < 0 {
+        complain_of(word, path, os::errno());
+    }
+    descriptor
+}
+
+// Closes a file that was made. Where something of it could not be written (`whole` is false), the file is taken away again: half a file is worse than none.
+pub fn close_file(word: &[u8], path: &[u8], descriptor: i32, whole: bool) -> bool {
+    let closed = libc::close(descriptor) == 0;
+    if whole & closed {
+        return true;
+    }
+    complain(b"heidezirkel ");
+    complain(word);
+    complain(b": ");
+    complain_why(
+        path,
+        b"the file could not be written whole, and is taken away again: is the disk full?\n",
+    );
+    os::unlink(path);
+    false
 }
