@@ -2,7 +2,6 @@
 // A program has no exit status, so the last line on standard output is its verdict: `verdict 0` fine, `verdict 1` refused,
 // `verdict 2` could not run. bin/heidezirkel turns it into the exit status. What concerns misuse goes to standard error.
 mod arguments;
-mod help;
 mod input;
 mod probe;
 
@@ -12,13 +11,14 @@ ghost use lib.ListN.{length};
 use arguments::join;
 use filing::Filed;
 use filing::read_file;
-use help::complain_usage;
-use help::tell_help;
-use help::tell_judge_help;
-use help::tell_message_help;
-use help::tell_probe_help;
-use help::tell_settings_help;
-use help::tell_show_help;
+use help_words::complain_help;
+use help_words::complain_unknown;
+use help_words::tell_help;
+use help_words::words::tell_judge_help;
+use help_words::words::tell_message_help;
+use help_words::words::tell_probe_help;
+use help_words::words::tell_settings_help;
+use help_words::words::tell_show_help;
 use input::line_room;
 use input::octets_room;
 use input::stream;
@@ -227,10 +227,9 @@ fn main() {
         return;
     }
     if 0 < count {
-        complain(b"heidezirkel: no such word: ");
-        complain(word);
-        complain(b"\n");
+        complain_unknown(word);
+    } else {
+        complain_help();
     }
-    complain_usage();
     tell_verdict(2);
 }

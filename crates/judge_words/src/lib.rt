@@ -7,6 +7,7 @@ use message::Classmark;
 use refusal::tell_refusal;
 use reply::Own;
 use saying::tell;
+use saying::tell_count;
 use saying::tell_place;
 use settings::Settings;
 use text::words::part;
@@ -69,8 +70,12 @@ fn tell_verdict_on(own: Own, identity: &[u8], joining: u64, log: &[u8], judged: 
 
 fn tell_accepted(entries: usize, least: u64, greatest: u64) {
     tell(b"accepted: ");
-    tell_place(entries);
-    tell(b" entries; each is what a radio does whose joining timer is ");
+    tell_count(
+        entries,
+        b" entry; it is what a radio does",
+        b" entries; each is what a radio does",
+    );
+    tell(b" whose joining timer is ");
     if least == greatest {
         tell(b"exactly ");
         tell_long(least);

@@ -1,33 +1,7 @@
-// What `--help` says on standard output, and the usage on standard error.
-use saying::complain;
+// What `heidezirkel WORD --help` says of each word.
 use saying::tell;
 
-pub(crate) fn complain_usage() {
-    complain(
-        b"usage: heidezirkel message HEX..   takes a message apart in words\n       \
-          heidezirkel settings FILE    says what a settings file sets, or where it is refused\n       \
-          heidezirkel show LOG         says what a log holds, a line an entry\n       \
-          heidezirkel judge SETTINGS LOG   says whether a log is what a radio does, and with which joining timer\n       \
-          heidezirkel probe            answers commands on standard input\n       \
-          heidezirkel --help           says more; so does WORD --help\n",
-    );
-}
-
-pub(crate) fn tell_help() {
-    tell(
-        b"usage: heidezirkel WORD [ARGUMENT..]\n\
-          Broadcast call control of GSM 04.69 for mobile stations.\n  \
-          message HEX..   takes a message apart in words\n  \
-          settings FILE   says what a settings file sets, or at which line it is refused and why\n  \
-          show LOG        says what a log holds, a line an entry\n  \
-          judge SETTINGS LOG   says whether a log is what a radio does, and with which joining timer\n  \
-          probe           answers commands on standard input, a line each\n  \
-          WORD --help     says more of a word\n\
-          Exit status: 0 fine, 1 refused, 2 could not run.\n",
-    );
-}
-
-pub(crate) fn tell_message_help() {
+pub fn tell_message_help() {
     tell(
         b"usage: heidezirkel message HEX..\n\
           Takes a message apart in words: kind, direction, transaction, then each field with its octets,\n\
@@ -37,7 +11,7 @@ pub(crate) fn tell_message_help() {
     );
 }
 
-pub(crate) fn tell_probe_help() {
+pub fn tell_probe_help() {
     tell(
         b"usage: heidezirkel probe\n\
           Answers commands on standard input, a line each, with a line each. Words are parted by one space;\n\
@@ -53,7 +27,7 @@ pub(crate) fn tell_probe_help() {
     );
 }
 
-pub(crate) fn tell_settings_help() {
+pub fn tell_settings_help() {
     tell(
         b"usage: heidezirkel settings FILE\n\
           Says what the settings file sets; or names the first line that can't be read, repeats a name or is missing,\n\
@@ -62,7 +36,7 @@ pub(crate) fn tell_settings_help() {
     );
 }
 
-pub(crate) fn tell_show_help() {
+pub fn tell_show_help() {
     tell(
         b"usage: heidezirkel show LOG\n\
           Says what a log holds, a line an entry: its time, event, message, states, parameters, actions and reply.\n\
@@ -71,7 +45,7 @@ pub(crate) fn tell_show_help() {
     );
 }
 
-pub(crate) fn tell_judge_help() {
+pub fn tell_judge_help() {
     tell(
         b"usage: heidezirkel judge SETTINGS LOG\n\
           Says whether one joining timer, the same all through, explains every entry of the log from a cleared context,\n\

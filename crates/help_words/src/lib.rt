@@ -1,0 +1,41 @@
+// Help: what the program says of itself and of each word, and which words are near one that it does not know.
+mod near;
+pub mod words;
+
+use libc::STDERR_FILENO;
+use libc::STDOUT_FILENO;
+use near::complain_near;
+use saying::complain;
+
+// The one help text, where it is asked for and where nothing else can be said.
+fn write_help(descriptor: i32) {
+    io::write_all(
+        descriptor,
+        b"usage: heidezirkel WORD [ARGUMENT..]\n\
+          Broadcast call control of GSM 04.69 for mobile stations: the radio's side of the call that carries the warning.\n  \
+          judge SETTINGS LOG          says whether a log is what a radio does, and with which joining timer\n  \
+          show LOG                    says what a log holds, a line an entry\n  \
+          settings FILE               says what a settings file sets, or at which line it is refused and why\n  \
+          message HEX..               takes a message apart in words\n  \
+          probe                       answers commands on standard input, a line each\n  \
+          WORD --help                 says more of a word\n\
+          Results go to standard output, complaints to standard error. Exit status: 0 fine, 1 refused, 2 could not run.\n",
+    );
+}
+
+pub fn tell_help() {
+    write_help(STDOUT_FILENO);
+}
+
+pub fn complain_help() {
+    write_help(STDERR_FILENO);
+}
+
+// A word that the program does not know, and what is near.
+pub fn complain_unknown(word: &[u8]) {
+    complain(b"heidezirkel: there is no word ");
+    complain(word);
+    complain(b"\n");
+    complain_near(word);
+    complain(b"heidezirkel --help lists the words\n");
+}
