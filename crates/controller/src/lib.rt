@@ -1,0 +1,2 @@
+// Heidezirkel as a C library: what heidezirkel.h declares.
+pub mod messages;

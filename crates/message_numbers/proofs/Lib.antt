@@ -1,0 +1,5 @@
+pub mod Means
+pub mod TakenBack
+pub mod Carried
+pub mod WrittenBack
+pub mod Coincide
