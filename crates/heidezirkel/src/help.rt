@@ -8,6 +8,7 @@ pub(crate) fn complain_usage() {
           heidezirkel settings FILE    says what a settings file sets, or where it is refused\n       \
           heidezirkel show LOG         says what a log holds, a line an entry\n       \
           heidezirkel judge SETTINGS LOG   says whether a log is what a radio does, and with which joining timer\n       \
+          heidezirkel pcap LOG FILE    makes a capture file of a log's messages, for Wireshark\n       \
           heidezirkel probe            answers commands on standard input\n       \
           heidezirkel --help           says more; so does WORD --help\n",
     );
@@ -21,6 +22,7 @@ pub(crate) fn tell_help() {
           settings FILE   says what a settings file sets, or at which line it is refused and why\n  \
           show LOG        says what a log holds, a line an entry\n  \
           judge SETTINGS LOG   says whether a log is what a radio does, and with which joining timer\n  \
+          pcap LOG FILE   makes a capture file of a log's messages, for Wireshark\n  \
           probe           answers commands on standard input, a line each\n  \
           WORD --help     says more of a word\n\
           Exit status: 0 fine, 1 refused, 2 could not run.\n",
@@ -78,5 +80,15 @@ pub(crate) fn tell_judge_help() {
           and which timers do; or the first entry that can't be read or up to which none does, what it claims, and what the\n\
           step gives or which time rule it breaks. A settings file that is refused stops it at its line.\n\
           Exit status: 0 accepted, 1 refused, 2 a file can't be opened.\n",
+    );
+}
+
+pub(crate) fn tell_pcap_help() {
+    tell(
+        b"usage: heidezirkel pcap LOG FILE\n\
+          Makes FILE, a capture of the log's messages (received ones, and the radio's replies) with their times, which\n\
+          Wireshark opens with no set-up. Times count from the log's start. FILE must not be there yet.\n\
+          A log that breaks off gives the messages up to there, and where it does is told on standard error.\n\
+          Exit status: 0 every entry is read, 1 one is not, 2 a file can't be opened or made.\n",
     );
 }

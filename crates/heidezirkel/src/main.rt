@@ -10,12 +10,14 @@ ghost use mathlib.Core.Path.{_≡_};
 ghost use Prim.Native.Nat.{_≤_};
 ghost use lib.ListN.{length};
 use arguments::join;
+use capture_words::write_capture;
 use filing::Filed;
 use filing::read_file;
 use help::complain_usage;
 use help::tell_help;
 use help::tell_judge_help;
 use help::tell_message_help;
+use help::tell_pcap_help;
 use help::tell_probe_help;
 use help::tell_settings_help;
 use help::tell_show_help;
@@ -197,6 +199,49 @@ fn judge_log(settings: Settings) -> u8 {
     tell_judged(settings, part(&log, 0, count))
 }
 
+// The log of `pcap`, and the name of the file that is made.
+fn run_pcap() {
+    if asks_help(2) {
+        tell_pcap_help();
+        tell_verdict(0);
+        return;
+    }
+    if os::arg_count() != 4 {
+        complain(
+            b"heidezirkel pcap: takes two arguments, a log and the name of the capture file to make\n",
+        );
+        tell_verdict(2);
+        return;
+    }
+    let mut name = io::buffer();
+    let length = os::arg(2, &mut name);
+    let mut log = log_room();
+    let filed = read_file(b"pcap", part(&name, 0, length), &mut log);
+    if !filed.good {
+        tell_verdict(2);
+        return;
+    }
+    let count = filed.count;
+    let mut path = io::buffer();
+    let end = os::arg(3, &mut path);
+    tell_verdict(write_capture(
+        part(&name, 0, length),
+        part(&log, 0, count),
+        part(&path, 0, end),
+    ));
+}
+
+// There is no such word, or none at all.
+fn refuse_word(word: &[u8]) {
+    if 0 < word.len() {
+        complain(b"heidezirkel: no such word: ");
+        complain(word);
+        complain(b"\n");
+    }
+    complain_usage();
+    tell_verdict(2);
+}
+
 fn main() {
     let mut argument = io::buffer();
     let count = os::arg(1, &mut argument);
@@ -221,16 +266,14 @@ fn main() {
         run_show();
         return;
     }
+    if same(word, b"pcap") {
+        run_pcap();
+        return;
+    }
     if same(word, b"--help") {
         tell_help();
         tell_verdict(0);
         return;
     }
-    if 0 < count {
-        complain(b"heidezirkel: no such word: ");
-        complain(word);
-        complain(b"\n");
-    }
-    complain_usage();
-    tell_verdict(2);
+    refuse_word(word);
 }
