@@ -9,6 +9,7 @@ ghost use mathlib.Core.Path.{_≡_};
 ghost use Prim.Native.Nat.{_≤_};
 ghost use lib.ListN.{length};
 use arguments::join;
+use capture_words::write_capture;
 use filing::Filed;
 use filing::read_file;
 use help_words::complain_help;
@@ -16,6 +17,7 @@ use help_words::complain_unknown;
 use help_words::tell_help;
 use help_words::words::tell_judge_help;
 use help_words::words::tell_message_help;
+use help_words::words::tell_pcap_help;
 use help_words::words::tell_probe_help;
 use help_words::words::tell_settings_help;
 use help_words::words::tell_show_help;
@@ -197,6 +199,48 @@ fn judge_log(settings: Settings) -> u8 {
     tell_judged(settings, part(&log, 0, count))
 }
 
+// The log of `pcap`, and the name of the file that is made.
+fn run_pcap() {
+    if asks_help(2) {
+        tell_pcap_help();
+        tell_verdict(0);
+        return;
+    }
+    if os::arg_count() != 4 {
+        complain(
+            b"heidezirkel pcap: takes two arguments, a log and the name of the capture file to make\n",
+        );
+        tell_verdict(2);
+        return;
+    }
+    let mut name = io::buffer();
+    let length = os::arg(2, &mut name);
+    let mut log = log_room();
+    let filed = read_file(b"pcap", part(&name, 0, length), &mut log);
+    if !filed.good {
+        tell_verdict(2);
+        return;
+    }
+    let count = filed.count;
+    let mut path = io::buffer();
+    let end = os::arg(3, &mut path);
+    tell_verdict(write_capture(
+        part(&name, 0, length),
+        part(&log, 0, count),
+        part(&path, 0, end),
+    ));
+}
+
+// There is no such word, or none at all.
+fn refuse_word(word: &[u8]) {
+    if 0 < word.len() {
+        complain_unknown(word);
+    } else {
+        complain_help();
+    }
+    tell_verdict(2);
+}
+
 fn main() {
     let mut argument = io::buffer();
     let count = os::arg(1, &mut argument);
@@ -221,15 +265,14 @@ fn main() {
         run_show();
         return;
     }
+    if same(word, b"pcap") {
+        run_pcap();
+        return;
+    }
     if same(word, b"--help") {
         tell_help();
         tell_verdict(0);
         return;
     }
-    if 0 < count {
-        complain_unknown(word);
-    } else {
-        complain_help();
-    }
-    tell_verdict(2);
+    refuse_word(word);
 }

@@ -15,6 +15,7 @@ fn write_help(descriptor: i32) {
           Broadcast call control of GSM 04.69 for mobile stations: the radio's side of the call that carries the warning.\n  \
           judge SETTINGS LOG          says whether a log is what a radio does, and with which joining timer\n  \
           show LOG                    says what a log holds, a line an entry\n  \
+          pcap LOG FILE               makes a capture file of a log's messages, for Wireshark\n  \
           settings FILE               says what a settings file sets, or at which line it is refused and why\n  \
           message HEX..               takes a message apart in words\n  \
           probe                       answers commands on standard input, a line each\n  \

@@ -54,3 +54,13 @@ pub fn tell_judge_help() {
           Exit status: 0 accepted, 1 refused, 2 a file can't be opened.\n",
     );
 }
+
+pub fn tell_pcap_help() {
+    tell(
+        b"usage: heidezirkel pcap LOG FILE\n\
+          Makes FILE, a capture of the log's messages (received ones, and the radio's replies) with their times, which\n\
+          Wireshark opens with no set-up. Times count from the log's start. FILE must not be there yet.\n\
+          A log that breaks off gives the messages up to there, and where it does is told on standard error.\n\
+          Exit status: 0 every entry is read, 1 one is not, 2 a file can't be opened or made.\n",
+    );
+}
