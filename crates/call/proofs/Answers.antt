@@ -1,7 +1,8 @@
--- What an answer says: any but 0 keeps the context and has no actions, and any but 0 and 2 sends nothing.
-use Prim.Native.Nat.{ℕ}
+-- What an answer says: it is 0 to 3; any but 0 keeps the context and has no actions, and any but 0 and 2 sends nothing.
+use Prim.Native.Nat.{ℕ, _≤_}
 use mathlib.Core.Path.{_≡_, refl}
 use mathlib.Core.Bool.{Bool}
+use native.Mathlib.Omega.{arith}
 use Rattle.octets.proofs.Choice.{at-cond}
 use Rattle.codes.specs.Attributes.{parametersOf}
 use Rattle.context.specs.declared.Context.{Context}
@@ -18,12 +19,14 @@ use Rattle.call.specs.Events.{seenOf}
 use Rattle.call.specs.Step.{took, ignored, noStep, reportedWith, statusTold, parametersSet, carriedOut, stepValue}
 
 pub record Right (x : Context) (r : Stepped) : Type 0 where
+  pub numbered : r .answer ≤ 3
   pub kept : (r .answer ≡ 0 → ⊥) → r .context ≡ x
   pub still : (r .answer ≡ 0 → ⊥) → r .actions ≡ 0
   pub silent : (r .answer ≡ 0 → ⊥) → (r .answer ≡ 2 → ⊥) → r .sends ≡ Nothing
 
 taken-right : (x y : Context) (actions : ℕ) (sends : Send) → Right x (took y actions sends)
 taken-right x y actions sends = record {
+  numbered = omega arith;
   kept = λ n. elim (n refl) [ ];
   still = λ n. elim (n refl) [ ];
   silent = λ n m. elim (n refl) [ ];
@@ -31,16 +34,16 @@ taken-right x y actions sends = record {
 
 pub ignored-right : (x : Context) → Right x (ignored x)
 unfolding ignored
-ignored-right x = record { kept = λ n. refl; still = λ n. refl; silent = λ n m. refl }
+ignored-right x = record { numbered = omega arith; kept = λ n. refl; still = λ n. refl; silent = λ n m. refl }
 
 pub no-step-right : (x : Context) → Right x (noStep x)
 unfolding noStep
-no-step-right x = record { kept = λ n. refl; still = λ n. refl; silent = λ n m. refl }
+no-step-right x = record { numbered = omega arith; kept = λ n. refl; still = λ n. refl; silent = λ n m. refl }
 
 pub reported-right : (x : Context) (cause : ℕ) → Right x (reportedWith cause x)
 unfolding reportedWith
 reported-right x cause =
-    at-cond (Right x) (x .parameters .comm) _ _ (λ e. record { kept = λ n. refl; still = λ n. refl; silent = λ n m. elim (m refl) [ ] }) (λ e. ignored-right x)
+    at-cond (Right x) (x .parameters .comm) _ _ (λ e. record { numbered = omega arith; kept = λ n. refl; still = λ n. refl; silent = λ n m. elim (m refl) [ ] }) (λ e. ignored-right x)
 
 carried-right : (x : Context) (d : Decision) (e : Seen) → Right x (carriedOut x d e)
 unfolding carriedOut statusTold parametersSet

@@ -1,16 +1,15 @@
 -- The time of an entry: the judge's tests by the age of the running timer, one return of the code at a time.
 use Prim.Native.Nat.{ℕ, _+_, _-_, _≤_, _<_}
-use mathlib.Core.Path.{_≡_, sym}
+use mathlib.Core.Path.{_≡_}
 use mathlib.Core.Bool.{Bool, true, false}
 use mathlib.Core.List.{List}
 use native.Mathlib.Omega.{arith}
 use lib.Dec.{eqb}
 use borrow.Author.Tests.{ne-eqb, lt-ltb, le-ltb}
-use Rattle.octets.proofs.Choice.{cond-same}
 use Rattle.codes.specs.Attributes.{weighs}
 use Rattle.context.specs.declared.Context.{Context}
 use Rattle.context.specs.Context.{cleared}
-use Rattle.context.specs.Running.{runs, expiryOf, lengthOf}
+use Rattle.context.specs.Running.{runs, expiryOf}
 use Rattle.number.specs.Number.{numberAt}
 use Rattle.number.specs.declared.Number.the-variants.{Value, Unreadable as NoNumber}
 use Rattle.judge.specs.declared.Begun.the-variants.{At, NoVersion}
@@ -23,11 +22,6 @@ pub weight-most : (b : Bool) (w r : ℕ) → r ≡ weighs b w → r ≤ w
 unfolding weighs
 weight-most true w r e = omega arith
 weight-most false w r e = omega arith
-
--- Timers that have no known length: 0 and the joining timer among them.
-pub no-length : (timer : ℕ) → (timer ≡ 1 → ⊥) → (timer ≡ 2 → ⊥) → (timer ≡ 4 → ⊥) → 0 ≡ lengthOf 0 timer
-unfolding lengthOf
-no-length timer a b d = rw (ne-eqb timer 1 a, ne-eqb timer 2 b, ne-eqb timer 4 d) (sym (cond-same (eqb timer 3) 0))
 
 -- The three ways of an entry's time.
 module _ (t : Track) (delta event : ℕ) (after : Context) (place before expiry : ℕ) (b : before ≡ runs (t .context)) (e : expiry ≡ expiryOf event) where

@@ -63,14 +63,15 @@ module _ (identity : List ℕ) (x : Context) where
   unfolding reactedTo
   react-right h s = at-cond (Right x) (eqb (h .number) 18) _ _ (λ e. heard-right (h .mode) s) (λ e. event-right (eventOf (h .number) (h .value) (h .reference)))
 
--- What a reaction's answer says: any but 0 keeps the context and has no actions; any but 0 and 2 writes nothing.
+-- What a reaction's answer says: it is a number of the table, 0 to 7; any but 0 keeps the context and has no actions; any but 0 and 2 writes nothing.
 pub record Honest (x : Context) (r : Reaction) : Type 0 where
+  pub numbered : r .answer ≤ 7
   pub kept : (r .answer ≡ 0 → ⊥) → r .context ≡ x
   pub still : (r .answer ≡ 0 → ⊥) → r .actions ≡ 0
   pub silent : (r .answer ≡ 0 → ⊥) → (r .answer ≡ 2 → ⊥) → r .reply ≡ []
 
-refused-honest : (x : Context) (answer : ℕ) → Honest x (refused answer x)
-refused-honest x answer = record { kept = λ n. refl; still = λ n. refl; silent = λ n m. refl }
+refused-honest : (x : Context) (answer : ℕ) → answer ≤ 7 → Honest x (refused answer x)
+refused-honest x answer few = record { numbered = few; kept = λ n. refl; still = λ n. refl; silent = λ n m. refl }
 
 unsent : (own : Own) (identity s : List ℕ) (x : Context) (sends : Send) → sends ≡ Nothing → replyOf own identity s x sends ≡ []
 unfolding replyOf
@@ -78,19 +79,20 @@ unsent own identity s x sends e = rw e
 
 reacted-honest : (own : Own) (identity s : List ℕ) (x : Context) (t : Taken) → Right x t → Honest x (reacted own identity s t)
 reacted-honest own identity s x t r = record {
+  numbered = omega (arith, r .numbered);
   kept = r .kept;
   still = r .still;
   silent = λ n m. unsent own identity s (t .context) (t .sends) (r .silent n m);
 }
 
--- Answers 1 and 3 to 7 change nothing lent, and 2 keeps the context.
+-- Every call is answered 0 to 7. Answers 1 and 3 to 7 change nothing lent, and 2 keeps the context.
 pub step-honest : (own : Own) (identity : List ℕ) (room : ℕ) (x : Context) (h : Happened) (s : List ℕ) → Honest x (stepOf own identity room x h s)
 unfolding stepOf
 step-honest own identity room x h s =
-    at-cond (Honest x) (not (fitOf x)) _ _ (λ e. refused-honest x 7)
-    (λ e. at-cond (Honest x) (ltb room 255) _ _ (λ e. refused-honest x 5)
-    (λ e. at-cond (Honest x) (eqb (h .number) 18 && ltb 251 (length s)) _ _ (λ e. refused-honest x 6)
-    (λ e. at-cond (Honest x) (outOfRange (own .key) (length identity) h) _ _ (λ e. refused-honest x 4)
+    at-cond (Honest x) (not (fitOf x)) _ _ (λ e. refused-honest x 7 (omega arith))
+    (λ e. at-cond (Honest x) (ltb room 255) _ _ (λ e. refused-honest x 5 (omega arith))
+    (λ e. at-cond (Honest x) (eqb (h .number) 18 && ltb 251 (length s)) _ _ (λ e. refused-honest x 6 (omega arith))
+    (λ e. at-cond (Honest x) (outOfRange (own .key) (length identity) h) _ _ (λ e. refused-honest x 4 (omega arith))
     (λ e. reacted-honest own identity s x (reactedTo identity x h s) (react-right identity x h s)))))
 
 -- A step from a fit context ends in a fit one.

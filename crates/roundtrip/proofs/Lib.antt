@@ -2,3 +2,4 @@ pub mod Drawn
 pub mod ByKind
 pub mod RoundTrip
 pub mod Again
+pub mod Answers

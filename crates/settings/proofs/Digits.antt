@@ -9,7 +9,7 @@ use borrow.Author.Tests.{lt-ltb, le-ltb, le-leb, lt-leb}
 use lib.Dec.{leb}
 use lib.ListN.{length, getD, drop, set, drop-of-length-le}
 use lib.Seq.{drop-cons}
-use Rattle.settings.specs.Digits.{within, digit, digits, octetsOf, numberFrom}
+use Rattle.settings.specs.Digits.{between, digit, digits, octetsOf, numberFrom}
 use Rattle.settings.specs.Values.{noHex, hexFrom, decimalFrom}
 
 pub and-false : (t : Bool) → (t && false) ≡ false
@@ -17,13 +17,13 @@ and-false true = refl
 and-false false = refl
 
 -- An octet inside a range, below it and above it.
-inside : (low b high : ℕ) → low ≤ b → b ≤ high → within low b high ≡ true
+inside : (low b high : ℕ) → low ≤ b → b ≤ high → between low b high ≡ true
 inside low b high h k = rw (le-leb low b h, le-leb b high k)
 
-pub below : (low b high : ℕ) → b < low → within low b high ≡ false
+pub below : (low b high : ℕ) → b < low → between low b high ≡ false
 below low b high h = rw (lt-leb low b h)
 
-pub above : (low b high : ℕ) → high < b → within low b high ≡ false
+pub above : (low b high : ℕ) → high < b → between low b high ≡ false
 above low b high h = rw (lt-leb b high h) (and-false (leb low b))
 
 -- What each range of octets is as a digit, and the gaps between them.
@@ -40,7 +40,7 @@ module _ (b : ℕ) where
   unfolding digit
   digit-lower h k = rw (above 0x30 b 0x39 (omega arith), above 0x41 b 0x46 (omega arith), inside 0x61 b 0x66 h k)
 
-  pub digit-none : within 0x30 b 0x39 ≡ false → within 0x41 b 0x46 ≡ false → within 0x61 b 0x66 ≡ false → 16 ≡ digit b
+  pub digit-none : between 0x30 b 0x39 ≡ false → between 0x41 b 0x46 ≡ false → between 0x61 b 0x66 ≡ false → 16 ≡ digit b
   unfolding digit
   digit-none h k l = rw (h, k, l)
 

@@ -8,7 +8,7 @@ use native.Mathlib.Omega.{arith}
 use borrow.Author.Tests.{lt-ltb, le-ltb, leb-true, ltb-true}
 use lib.ListN.{length, getD}
 use Rattle.octets.proofs.Choice.{never, at-cond}
-use Rattle.settings.specs.Digits.{within, digit, digits, octetsOf, numberFrom}
+use Rattle.settings.specs.Digits.{between, digit, digits, octetsOf, numberFrom}
 use Rattle.settings.specs.Written.{Digit, HexText, none, octet, decimalText}
 use Rattle.settings.proofs.Digits.{number-grows}
 
@@ -21,18 +21,18 @@ both false b e = never e
 digit-is : (b : ℕ) → digit b < 16 → Digit (digit b) b
 unfolding digit
 digit-is b =
-    at-cond P (within 0x30 b 0x39) _ _
+    at-cond P (between 0x30 b 0x39) _ _
     (λ e h. let k = span 0x30 0x39 e in let q : b - 0x30 < 10 = omega arith in inl (rw (lt-ltb (b - 0x30) 10 q) (omega arith)))
-    λ _. at-cond P (within 0x41 b 0x46) _ _
+    λ _. at-cond P (between 0x41 b 0x46) _ _
     (λ e h. let k = span 0x41 0x46 e in let q : 10 ≤ b - 0x37 = omega arith in inl (rw (le-ltb (b - 0x37) 10 q) (omega arith)))
-    λ _. at-cond P (within 0x61 b 0x66) _ _
+    λ _. at-cond P (between 0x61 b 0x66) _ _
     (λ e h. let k = span 0x61 0x66 e in let q : 10 ≤ b - 0x57 = omega arith in inr (rw (le-ltb (b - 0x57) 10 q) (omega arith)))
     λ _ h. let z : ⊥ = omega arith in elim z [ ]
   where
     P : ℕ → Type 0
     P n = n < 16 → Digit n b
 
-    span : (low high : ℕ) → within low b high ≡ true → (low ≤ b) × (b ≤ high)
+    span : (low high : ℕ) → between low b high ≡ true → (low ≤ b) × (b ≤ high)
     span low high e = let k = both _ _ e in (leb-true _ _ (k .0), leb-true _ _ (k .1))
 
 pub digit-low-is : (b : ℕ) → digit b < 10 → b ≡ 0x30 + digit b

@@ -4,15 +4,16 @@ use mathlib.Core.Bool.{Bool, true, cond, _&&_}
 use mathlib.Core.List.{List, [], _∷_}
 use lib.Dec.{leb, ltb}
 
-abbrev pub within : ℕ → ℕ → ℕ → Bool
-within low b high = leb low b && leb b high
+-- `b` lies between the two, or is one of them.
+abbrev pub between : ℕ → ℕ → ℕ → Bool
+between low b high = leb low b && leb b high
 
 -- What an octet is as a digit: 0 to 15 for `0` to `9`, `A` to `F` or `a` to `f`, and 16 for what is no digit.
 unfoldable pub digit : ℕ → ℕ
 digit b =
-    cond (within 0x30 b 0x39) (b - 0x30)
-    (cond (within 0x41 b 0x46) (b - 0x37)
-    (cond (within 0x61 b 0x66) (b - 0x57) 16))
+    cond (between 0x30 b 0x39) (b - 0x30)
+    (cond (between 0x41 b 0x46) (b - 0x37)
+    (cond (between 0x61 b 0x66) (b - 0x57) 16))
 
 -- Every octet is a digit below the base: 16 for hex digits, 10 for decimal ones, 8 for 0 to 7.
 unfoldable pub digits : ℕ → List ℕ → Bool

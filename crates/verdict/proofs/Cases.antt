@@ -19,10 +19,8 @@ use Rattle.log.specs.Reading.{smallAt, runAt, callAt, receivedAt, dataAt, claim
 use Rattle.table.specs.Judge.{narrow, turn, judgeFrom, judge}
 use Rattle.table.specs.Reading.{entriesIn, entries}
 use Rattle.table.specs.OneTimer.{judgeOne}
-use Rattle.verdict.specs.declared.Judged.{Judged}
-use Rattle.verdict.specs.declared.Judged.the-variants.{Accepted, Unreadable, Unexplained}
 use Rattle.verdict.specs.Table.{parametersNumber, agree}
-use Rattle.verdict.specs.Judge.{settingsOut, versionJudged, judgeOf}
+use Rattle.verdict.specs.Judge.{settingsOut, versionJudged, judgeOf, answerNumber, answerValues}
 
 -- Settings in range; none of these logs asks for what they are.
 abbrev own : Own
@@ -64,27 +62,29 @@ twiceNoChannel = (0x01 ∷ []) ++ (notified ++ (joins ++ ((0x00 ∷ entered) ++ 
 abbrev termination : List ℕ
 termination = 0x00 ∷ 0x12 ∷ 0x00 ∷ 0x04 ∷ 0x01 ∷ 0x34 ∷ 0x01 ∷ 0x9E ∷ []
 
-abbrev pub cases : List (List ℕ × Judged)
+-- Each log with the answer's number and values.
+abbrev pub cases : List (List ℕ × ℕ × List ℕ)
 cases =
-    (0x01 ∷ [], Accepted 0 10000 30000) ∷  -- c1
-    ([], Unreadable 0) ∷  -- c2
-    (0x01 ∷ 0x00 ∷ 0x03 ∷ 0x03 ∷ 0x00 ∷ 0x00 ∷ 0x00 ∷ 0x00 ∷ [], Accepted 1 10000 30000) ∷  -- c3
-    (0x01 ∷ 0x80 ∷ 0x00 ∷ [], Unreadable 1) ∷  -- c4
-    (0x01 ∷ (notified ++ (joins ++ expiresAt12000)), Accepted 3 12000 12000) ∷  -- c5
-    (0x01 ∷ (notified ++ (joins ++ (0xA0 ∷ 0x9C ∷ 0x01 ∷ entered))), Accepted 3 20000 30000) ∷  -- c6
-    (0x01 ∷ (notified ++ (joins ++ (0xB1 ∷ 0xEA ∷ 0x01 ∷ entered))), Unexplained 3) ∷  -- c7
-    (0x01 ∷ (notified ++ (joins ++ (expiresAt12000 ++ (notified ++ (joins ++ (0xE1 ∷ 0x5D ∷ entered)))))), Unexplained 6) ∷  -- c8
-    (0x01 ∷ (termination ++ (0x01 ∷ 0x00 ∷ 0x00 ∷ 0x00 ∷ 0x00 ∷ [])), Accepted 1 10000 30000) ∷  -- c9: answer 1
-    (0x01 ∷ (termination ++ (0x00 ∷ 0x00 ∷ 0x00 ∷ 0x00 ∷ 0x00 ∷ [])), Unexplained 1) ∷  -- and not 0
-    (twiceNoChannel ++ (0xE8 ∷ 0x07 ∷ noChannelExpires), Accepted 6 10000 30000) ∷  -- c10: 3,000 ms after the first
-    (twiceNoChannel ++ (0xB8 ∷ 0x17 ∷ noChannelExpires), Unexplained 6) ∷  -- and not after the second
+    (0x01 ∷ [], 0, 0 ∷ 10000 ∷ 30000 ∷ []) ∷  -- c1
+    ([], 8, 0 ∷ []) ∷  -- c2
+    (0x01 ∷ 0x00 ∷ 0x03 ∷ 0x03 ∷ 0x00 ∷ 0x00 ∷ 0x00 ∷ 0x00 ∷ [], 0, 1 ∷ 10000 ∷ 30000 ∷ []) ∷  -- c3
+    (0x01 ∷ 0x80 ∷ 0x00 ∷ [], 8, 1 ∷ []) ∷  -- c4
+    (0x01 ∷ (notified ++ (joins ++ expiresAt12000)), 0, 3 ∷ 12000 ∷ 12000 ∷ []) ∷  -- c5
+    (0x01 ∷ (notified ++ (joins ++ (0xA0 ∷ 0x9C ∷ 0x01 ∷ entered))), 0, 3 ∷ 20000 ∷ 30000 ∷ []) ∷  -- c6
+    (0x01 ∷ (notified ++ (joins ++ (0xB1 ∷ 0xEA ∷ 0x01 ∷ entered))), 9, 3 ∷ []) ∷  -- c7
+    (0x01 ∷ (notified ++ (joins ++ (expiresAt12000 ++ (notified ++ (joins ++ (0xE1 ∷ 0x5D ∷ entered)))))), 9, 6 ∷ []) ∷  -- c8
+    (0x01 ∷ (termination ++ (0x01 ∷ 0x00 ∷ 0x00 ∷ 0x00 ∷ 0x00 ∷ [])), 0, 1 ∷ 10000 ∷ 30000 ∷ []) ∷  -- c9: answer 1
+    (0x01 ∷ (termination ++ (0x00 ∷ 0x00 ∷ 0x00 ∷ 0x00 ∷ 0x00 ∷ [])), 9, 1 ∷ []) ∷  -- and not 0
+    (twiceNoChannel ++ (0xE8 ∷ 0x07 ∷ noChannelExpires), 0, 6 ∷ 10000 ∷ 30000 ∷ []) ∷  -- c10: 3,000 ms after the first
+    (twiceNoChannel ++ (0xB8 ∷ 0x17 ∷ noChannelExpires), 9, 6 ∷ []) ∷  -- and not after the second
     []
 
 -- Each log of a table is answered so.
-abbrev pub Answered : List (List ℕ × Judged) → Type 0
+abbrev pub Answered : List (List ℕ × ℕ × List ℕ) → Type 0
 Answered [] = Unit {0}
-Answered (c ∷ cs) = (judgeOf own identity (c .0) ≡ c .1) × Answered cs
+Answered (c ∷ cs) =
+    ((answerNumber (judgeOf own identity (c .0)) ≡ c .1) × (answerValues (judgeOf own identity (c .0)) ≡ c .2)) × Answered cs
 
 pub all-cases : Answered cases
 unfolding judgeOf versionJudged settingsOut judgeOne judge judgeFrom turn narrow entries entriesIn numberAt groupsAt joined upTo smallAt runAt callAt receivedAt dataAt claimAt restAt entryAt carriesCall agree parametersNumber weighs stepOf outOfRange reactedTo eventOf onEvent stepValue seenOf carriedOut decidedOf decidedIn stepTable heardIn noStep ignored afterwards withTimer parametersAfter startRow valueAfter referenceAfter cleared fitOf consistent timersFit isCleared runs expiryOf lengthOf replyOf heardOf isNotOurs sameOctets
-all-cases = (refl, (refl, (refl, (refl, (refl, (refl, (refl, (refl, (refl, (refl, (refl, (refl, tt))))))))))))
+all-cases = ((refl, refl), ((refl, refl), ((refl, refl), ((refl, refl), ((refl, refl), ((refl, refl), ((refl, refl), ((refl, refl), ((refl, refl), ((refl, refl), ((refl, refl), ((refl, refl), tt))))))))))))

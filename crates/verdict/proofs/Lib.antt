@@ -5,3 +5,4 @@ pub mod Demand
 pub mod Recorder
 pub mod Start
 pub mod Cases
+pub mod Settings

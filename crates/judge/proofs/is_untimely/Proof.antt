@@ -10,4 +10,5 @@ is-untimely-spec =
     tie.close
     (tie.spec
     (λ c κs. search needs)
-    (λ c. rw (c .known-length .ensures)))
+    (λ c. search needs)
+    (λ c. rw (c .timer-length .ensures)))
