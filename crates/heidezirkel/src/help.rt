@@ -8,6 +8,7 @@ pub(crate) fn complain_usage() {
           heidezirkel settings FILE    says what a settings file sets, or where it is refused\n       \
           heidezirkel show LOG         says what a log holds, a line an entry\n       \
           heidezirkel judge SETTINGS LOG   says whether a log is what a radio does, and with which joining timer\n       \
+          heidezirkel record SETTINGS SCRIPT LOG   makes a log from a script of events\n       \
           heidezirkel probe            answers commands on standard input\n       \
           heidezirkel --help           says more; so does WORD --help\n",
     );
@@ -21,6 +22,7 @@ pub(crate) fn tell_help() {
           settings FILE   says what a settings file sets, or at which line it is refused and why\n  \
           show LOG        says what a log holds, a line an entry\n  \
           judge SETTINGS LOG   says whether a log is what a radio does, and with which joining timer\n  \
+          record SETTINGS SCRIPT LOG   makes a log from a script of events\n  \
           probe           answers commands on standard input, a line each\n  \
           WORD --help     says more of a word\n\
           Exit status: 0 fine, 1 refused, 2 could not run.\n",
@@ -78,5 +80,22 @@ pub(crate) fn tell_judge_help() {
           and which timers do; or the first entry that can't be read or up to which none does, what it claims, and what the\n\
           step gives or which time rule it breaks. A settings file that is refused stops it at its line.\n\
           Exit status: 0 accepted, 1 refused, 2 a file can't be opened.\n",
+    );
+}
+
+pub(crate) fn tell_record_help() {
+    tell(
+        b"usage: heidezirkel record SETTINGS SCRIPT LOG\n\
+          Takes each event of the script through the step of a radio with these settings, from a cleared context, and writes what\n\
+          the step gives to a new file LOG. It judges no time: a script may tell of a radio whose timer runs wrong.\n\
+          A line of the script: TIME EVENT [DATA..], words parted by spaces. A line that starts with # and an empty one say nothing.\n  \
+          TIME    milliseconds from the start of the log; it never goes back\n  \
+          EVENT   set-up-request, immediate-set-up-request, broadcast-notified: DATA value=N reference=H,\n          \
+          N 0 to 6, H 8 hexadecimal digits\n          \
+          message: DATA acknowledged or unacknowledged, then the octets in hexadecimal words, which are joined\n          \
+          join, terminate, release, mm-established, mm-failed, link-failure, abort, receive-mode-entered, no-channel,\n          \
+          channel-available, t-mm-est-expired, t-term-expired, t-conn-req-expired, t-no-channel-expired: no DATA\n\
+          A line that can't be read, or whose step gives an answer that no log holds, is told with what is wanted, and no log is made.\n\
+          Exit status: 0 the log is made, 1 the settings or the script are refused, 2 a file can't be opened or written.\n",
     );
 }

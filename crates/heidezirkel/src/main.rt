@@ -17,6 +17,7 @@ use help::tell_help;
 use help::tell_judge_help;
 use help::tell_message_help;
 use help::tell_probe_help;
+use help::tell_record_help;
 use help::tell_settings_help;
 use help::tell_show_help;
 use input::line_room;
@@ -154,7 +155,37 @@ fn run_show() {
     tell_verdict(tell_log(part(&log, 0, count)));
 }
 
-// The settings file and the log of `judge`. A settings file that is refused stops it at its line.
+// The settings of a radio; or the verdict, 1 or 2, where there are none.
+struct Fitted {
+    verdict: u8,
+    settings: Settings,
+}
+
+// The settings file that is the first argument of a word. One that is refused stops the word at its line.
+fn settings_argument(word: &[u8]) -> Fitted {
+    let mut name = io::buffer();
+    let length = os::arg(2, &mut name);
+    let mut file = io::large_buffer();
+    let filed = read_file(word, part(&name, 0, length), &mut file);
+    if !filed.good {
+        return Fitted {
+            verdict: 2,
+            settings: Settings::NONE,
+        };
+    }
+    let count = filed.count;
+    let read = read_settings(part(&file, 0, count));
+    let settings = read.settings;
+    if read.answer != 0 {
+        let verdict = tell_settings(part(&name, 0, length), part(&file, 0, count), filed.whole);
+        return Fitted { verdict, settings };
+    }
+    Fitted {
+        verdict: 0,
+        settings,
+    }
+}
+
 fn run_judge() {
     if asks_help(2) {
         tell_judge_help();
@@ -166,22 +197,12 @@ fn run_judge() {
         tell_verdict(2);
         return;
     }
-    let mut name = io::buffer();
-    let length = os::arg(2, &mut name);
-    let mut file = io::large_buffer();
-    let filed = read_file(b"judge", part(&name, 0, length), &mut file);
-    if !filed.good {
-        tell_verdict(2);
+    let fitted = settings_argument(b"judge");
+    if fitted.verdict != 0 {
+        tell_verdict(fitted.verdict);
         return;
     }
-    let count = filed.count;
-    let read = read_settings(part(&file, 0, count));
-    if read.answer != 0 {
-        let verdict = tell_settings(part(&name, 0, length), part(&file, 0, count), filed.whole);
-        tell_verdict(verdict);
-        return;
-    }
-    let settings = read.settings;
+    let settings = fitted.settings;
     tell_verdict(judge_log(settings));
 }
 
@@ -197,6 +218,58 @@ fn judge_log(settings: Settings) -> u8 {
     tell_judged(settings, part(&log, 0, count))
 }
 
+fn run_record() {
+    if asks_help(2) {
+        tell_record_help();
+        tell_verdict(0);
+        return;
+    }
+    if os::arg_count() != 5 {
+        complain(
+            b"heidezirkel record: takes three arguments, a settings file, a script and the log's name\n",
+        );
+        tell_verdict(2);
+        return;
+    }
+    let fitted = settings_argument(b"record");
+    if fitted.verdict != 0 {
+        tell_verdict(fitted.verdict);
+        return;
+    }
+    let settings = fitted.settings;
+    tell_verdict(record_log(settings));
+}
+
+// The script and the log that `record` makes of it.
+fn record_log(settings: Settings) -> u8 {
+    let mut script = io::buffer();
+    let length = os::arg(3, &mut script);
+    let mut log = io::buffer();
+    let count = os::arg(4, &mut log);
+    record_words::run(settings, part(&script, 0, length), part(&log, 0, count))
+}
+
+// The words that take files: runs the one that `word` is, and answers whether it is one.
+fn run_with_files(word: &[u8]) -> bool {
+    if same(word, b"settings") {
+        run_settings();
+        return true;
+    }
+    if same(word, b"judge") {
+        run_judge();
+        return true;
+    }
+    if same(word, b"record") {
+        run_record();
+        return true;
+    }
+    if same(word, b"show") {
+        run_show();
+        return true;
+    }
+    false
+}
+
 fn main() {
     let mut argument = io::buffer();
     let count = os::arg(1, &mut argument);
@@ -209,16 +282,7 @@ fn main() {
         run_probe();
         return;
     }
-    if same(word, b"settings") {
-        run_settings();
-        return;
-    }
-    if same(word, b"judge") {
-        run_judge();
-        return;
-    }
-    if same(word, b"show") {
-        run_show();
+    if run_with_files(word) {
         return;
     }
     if same(word, b"--help") {
