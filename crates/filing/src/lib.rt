@@ -79,11 +79,16 @@ fn at_end(descriptor: i32, have: usize) -> Filed
     }
 }
 
-// Why the file can't be read, by the number of the error.
-fn complain_of(word: &[u8], path: &[u8], error: i32) {
+// What every complaint starts with.
+fn complain_start(word: &[u8]) {
     complain(b"heidezirkel ");
     complain(word);
     complain(b": ");
+}
+
+// Why the file can't be read, by the number of the error.
+fn complain_of(word: &[u8], path: &[u8], error: i32) {
+    complain_start(word);
     if error == libc::ENOENT {
         complain_why(path, b"there is no such file\n");
         return;
@@ -96,10 +101,27 @@ fn complain_of(word: &[u8], path: &[u8], error: i32) {
         complain_why(path, b"this file may not be read: permission denied\n");
         return;
     }
+    os::fail(path);
+}
+
+// Why the file can't be made.
+fn complain_of_making(word: &[u8], path: &[u8], error: i32) {
+    complain_start(word);
     if error == libc::EEXIST {
         complain_why(
             path,
             b"there is such a file already, and none is written over: take another name or move it away\n",
+        );
+        return;
+    }
+    if error == libc::ENOENT {
+        complain_why(path, b"there is no such folder to make the file in\n");
+        return;
+    }
+    if error == libc::EACCES {
+        complain_why(
+            path,
+            b"no file may be made in this folder: permission denied\n",
         );
         return;
     }
@@ -116,7 +138,7 @@ fn complain_why(path: &[u8], why: &[u8]) {
 pub fn create_file(word: &[u8], path: &[u8]) -> i32 {
     let descriptor = os::create(path);
     if descriptor < 0 {
-        complain_of(word, path, os::errno());
+        complain_of_making(word, path, os::errno());
     }
     descriptor
 }
@@ -127,9 +149,7 @@ pub fn close_file(word: &[u8], path: &[u8], descriptor: i32, whole: bool) -> boo
     if whole & closed {
         return true;
     }
-    complain(b"heidezirkel ");
-    complain(word);
-    complain(b": ");
+    complain_start(word);
     complain_why(
         path,
         b"the file could not be written whole, and is taken away again: is the disk full?\n",

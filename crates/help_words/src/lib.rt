@@ -1,11 +1,14 @@
 // Help: what the program says of itself and of each word, and which words are near one that it does not know.
 mod near;
-pub mod words;
+mod words;
 
 use libc::STDERR_FILENO;
 use libc::STDOUT_FILENO;
 use near::complain_near;
 use saying::complain;
+use text::words::part;
+use text::words::same;
+use words::tell_help_of;
 
 // The one help text, where it is asked for and where nothing else can be said.
 fn write_help(descriptor: i32) {
@@ -15,6 +18,7 @@ fn write_help(descriptor: i32) {
           Broadcast call control of GSM 04.69 for mobile stations: the radio's side of the call that carries the warning.\n  \
           judge SETTINGS LOG          says whether a log is what a radio does, and with which joining timer\n  \
           show LOG                    says what a log holds, a line an entry\n  \
+          record SETTINGS SCRIPT LOG  makes a log from a script of events\n  \
           pcap LOG FILE               makes a capture file of a log's messages, for Wireshark\n  \
           settings FILE               says what a settings file sets, or at which line it is refused and why\n  \
           message HEX..               takes a message apart in words\n  \
@@ -30,6 +34,18 @@ pub fn tell_help() {
 
 pub fn complain_help() {
     write_help(STDERR_FILENO);
+}
+
+// Whether the argument behind the word is `--help`.
+pub fn asks_help() -> bool {
+    let mut argument = io::buffer();
+    let count = os::arg(2, &mut argument);
+    same(part(&argument, 0, count), b"--help")
+}
+
+// Says the help of a word, and answers whether there is such a word.
+pub fn tell_word_help(word: &[u8]) -> bool {
+    tell_help_of(word)
 }
 
 // A word that the program does not know, and what is near.

@@ -1,7 +1,8 @@
 // What `heidezirkel WORD --help` says of each word.
 use saying::tell;
+use text::words::same;
 
-pub fn tell_message_help() {
+fn tell_message_help() {
     tell(
         b"usage: heidezirkel message HEX..\n\
           Takes a message apart in words: kind, direction, transaction, then each field with its octets,\n\
@@ -11,7 +12,7 @@ pub fn tell_message_help() {
     );
 }
 
-pub fn tell_probe_help() {
+fn tell_probe_help() {
     tell(
         b"usage: heidezirkel probe\n\
           Answers commands on standard input, a line each, with a line each. Words are parted by one space;\n\
@@ -27,7 +28,7 @@ pub fn tell_probe_help() {
     );
 }
 
-pub fn tell_settings_help() {
+fn tell_settings_help() {
     tell(
         b"usage: heidezirkel settings FILE\n\
           Says what the settings file sets; or names the first line that can't be read, repeats a name or is missing,\n\
@@ -36,7 +37,7 @@ pub fn tell_settings_help() {
     );
 }
 
-pub fn tell_show_help() {
+fn tell_show_help() {
     tell(
         b"usage: heidezirkel show LOG\n\
           Says what a log holds, a line an entry: its time, event, message, states, parameters, actions and reply.\n\
@@ -45,7 +46,7 @@ pub fn tell_show_help() {
     );
 }
 
-pub fn tell_judge_help() {
+fn tell_judge_help() {
     tell(
         b"usage: heidezirkel judge SETTINGS LOG\n\
           Says whether one joining timer, the same all through, explains every entry of the log from a cleared context,\n\
@@ -55,7 +56,7 @@ pub fn tell_judge_help() {
     );
 }
 
-pub fn tell_pcap_help() {
+fn tell_pcap_help() {
     tell(
         b"usage: heidezirkel pcap LOG FILE\n\
           Makes FILE, a capture of the log's messages (received ones, and the radio's replies) with their times, which\n\
@@ -63,4 +64,54 @@ pub fn tell_pcap_help() {
           A log that breaks off gives the messages up to there, and where it does is told on standard error.\n\
           Exit status: 0 every entry is read, 1 one is not, 2 a file can't be opened or made.\n",
     );
+}
+
+fn tell_record_help() {
+    tell(
+        b"usage: heidezirkel record SETTINGS SCRIPT LOG\n\
+          Takes each event of the script through the step of a radio with these settings, from a cleared context, and writes what\n\
+          the step gives to a new file LOG. It judges no time: a script may tell of a radio whose timer runs wrong.\n\
+          A line of the script: TIME EVENT [DATA..], words parted by spaces. A line that starts with # and an empty one say nothing.\n  \
+          TIME    milliseconds from the start of the log; it never goes back\n  \
+          EVENT   set-up-request, immediate-set-up-request, broadcast-notified: DATA value=N reference=H,\n          \
+          N 0 to 6, H 8 hexadecimal digits\n          \
+          message: DATA acknowledged or unacknowledged, then the octets in hexadecimal words, which are joined\n          \
+          join, terminate, release, mm-established, mm-failed, link-failure, abort, receive-mode-entered, no-channel,\n          \
+          channel-available, t-mm-est-expired, t-term-expired, t-conn-req-expired, t-no-channel-expired: no DATA\n\
+          A line that can't be read, or whose step gives an answer that no log holds, is told with what is wanted, and no log is made.\n\
+          Exit status: 0 the log is made, 1 the settings or the script are refused, 2 a file can't be opened or written.\n",
+    );
+}
+
+// Says the help of a word, and answers whether there is such a word.
+pub(crate) fn tell_help_of(word: &[u8]) -> bool {
+    if same(word, b"judge") {
+        tell_judge_help();
+        return true;
+    }
+    if same(word, b"show") {
+        tell_show_help();
+        return true;
+    }
+    if same(word, b"settings") {
+        tell_settings_help();
+        return true;
+    }
+    if same(word, b"message") {
+        tell_message_help();
+        return true;
+    }
+    if same(word, b"record") {
+        tell_record_help();
+        return true;
+    }
+    if same(word, b"pcap") {
+        tell_pcap_help();
+        return true;
+    }
+    if same(word, b"probe") {
+        tell_probe_help();
+        return true;
+    }
+    false
 }

@@ -1,5 +1,6 @@
 // A log's verdict in words: accepted, with what that says of the radio; or the entry at which it is refused, what that entry claims, and what the step
 // gives or which time rule it breaks.
+pub mod claim;
 mod refusal;
 
 use log_words::entry::tell_long;
@@ -13,19 +14,24 @@ use settings::Settings;
 use text::words::part;
 use verdict::Judged;
 
-// Judges a log by the settings of a radio, and answers the verdict.
-pub fn tell_judged(settings: Settings, log: &[u8]) -> u8 {
+// What the messages of a radio with these settings hold of its own.
+pub fn own_of(settings: Settings) -> Own {
     let classmark = settings.classmark;
-    let identity = settings.identity;
-    let count = settings.count;
-    let own = Own {
+    Own {
         key: settings.key,
         classmark: Classmark {
             first: classmark[0],
             second: classmark[1],
             third: classmark[2],
         },
-    };
+    }
+}
+
+// Judges a log by the settings of a radio, and answers the verdict.
+pub fn tell_judged(settings: Settings, log: &[u8]) -> u8 {
+    let identity = settings.identity;
+    let count = settings.count;
+    let own = own_of(settings);
     let judged = judge::judge(own, part(&identity, 0, count), log);
     tell_verdict_on(
         own,

@@ -1,15 +1,13 @@
 // Why a settings file is refused: the line's number, its text as far as it can be shown, and what was expected there.
 ghost use Prim.Native.Nat.{_≤_};
 ghost use lib.ListN.{length};
+use crate::line::tell_number_of;
+use crate::line::tell_text;
 use saying::tell;
-use saying::tell_octet;
 use saying::tell_place;
 use settings::Fault;
 use text::words::find;
 use text::words::part;
-
-// How many characters of a line are shown.
-const SHOWN: usize = 60;
 
 const LF: u8 = 10;
 
@@ -34,12 +32,6 @@ pub(crate) fn tell_too_long(file: &[u8], number: usize) -> u8 {
     tell_place(file.len());
     tell(b" bytes; settings are four lines, each once, and have at most 68 bytes\n");
     1
-}
-
-fn tell_number_of(number: usize) {
-    tell(b"line ");
-    tell_place(number);
-    tell(b": ");
 }
 
 // ---- the line
@@ -76,48 +68,6 @@ fn tell_line(line: &[u8], fault: Fault) {
         Fault::NoJoining => tell(b"there is no such line\n"),
         _ => tell_text(line),
     }
-}
-
-// The line's text in quotation marks.
-fn tell_text(line: &[u8]) {
-    if line.len() == 0 {
-        tell(b"an empty line\n");
-        return;
-    }
-    tell(b"\"");
-    if SHOWN < line.len() {
-        tell_characters(part(line, 0, SHOWN));
-        tell(b"\"..\n");
-        return;
-    }
-    tell_characters(line);
-    tell(b"\"\n");
-}
-
-fn tell_characters(text: &[u8]) {
-    let mut at = 0;
-    while at < text.len() {
-        tell_character(text, at, text[at]);
-        at += 1;
-    }
-}
-
-// A character that can be printed as it is, any other as \xNN.
-fn tell_character(text: &[u8], at: usize, character: u8) {
-    if character < 32 {
-        tell_escaped(character);
-        return;
-    }
-    if 126 < character {
-        tell_escaped(character);
-        return;
-    }
-    tell(part(text, at, 1));
-}
-
-fn tell_escaped(character: u8) {
-    tell(b"\\x");
-    tell_octet(character);
 }
 
 // ---- what was expected

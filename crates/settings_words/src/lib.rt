@@ -1,5 +1,6 @@
 // The settings file in words: what was read, or the line that is refused and what it wants. And the probe's command for it.
 mod fault;
+pub mod line;
 pub mod settings_command;
 
 use fault::tell_fault;

@@ -2,8 +2,8 @@
 use Prim.Native.Nat.{_-_}
 use borrow.Author.Needs.{needs}
 use lib.ListN.{length}
-use Rattle.settings_words.proofs.fault.tell_characters.Statement.{statement}
-use Rattle.settings_words.proofs.fault.tell_characters.Tie as tie
+use Rattle.settings_words.proofs.line.tell_characters.Statement.{statement}
+use Rattle.settings_words.proofs.line.tell_characters.Tie as tie
 
 abbrev Inv-loop : tie.InvT-loop
 Inv-loop text at₀ at = Unit {0}

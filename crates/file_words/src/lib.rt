@@ -1,0 +1,206 @@
+// The words that work on files: settings, show, judge, record, pcap. Each answers its verdict: 0 fine, 1 refused, 2 could not run.
+ghost use mathlib.Core.Path.{_≡_};
+ghost use lib.ListN.{length};
+use capture_words::write_capture;
+use filing::read_file;
+use judge_words::tell_judged;
+use log_words::tell_log;
+use saying::complain;
+use settings::Settings;
+use settings::read_settings;
+use settings_words::tell_settings;
+use text::words::part;
+use text::words::same;
+
+// Whether the word is one of these, and its verdict.
+pub struct Ran {
+    pub known: bool,
+    pub verdict: u8,
+}
+
+// Runs the word.
+pub fn run(word: &[u8]) -> Ran {
+    if same(word, b"judge") {
+        return ran(run_judge());
+    }
+    if same(word, b"show") {
+        return ran(run_show());
+    }
+    if same(word, b"settings") {
+        return ran(run_settings());
+    }
+    if same(word, b"record") {
+        return ran(run_record());
+    }
+    if same(word, b"pcap") {
+        return ran(run_pcap());
+    }
+    Ran {
+        known: false,
+        verdict: 2,
+    }
+}
+
+fn ran(verdict: u8) -> Ran {
+    Ran {
+        known: true,
+        verdict,
+    }
+}
+
+// Whether the word has so many arguments; a complaint, which says what it takes, where it has not.
+fn has_arguments(count: usize, word: &[u8], takes: &[u8]) -> bool {
+    if os::arg_count() == std::num::wrapping_add_usize(count, 2) {
+        return true;
+    }
+    complain(b"heidezirkel ");
+    complain(word);
+    complain(b": takes ");
+    complain(takes);
+    complain(b"; heidezirkel ");
+    complain(word);
+    complain(b" --help says more\n");
+    false
+}
+
+fn run_settings() -> u8 {
+    if !has_arguments(1, b"settings", b"one argument, a settings file") {
+        return 2;
+    }
+    let mut name = io::buffer();
+    let length = os::arg(2, &mut name);
+    let mut file = io::large_buffer();
+    let filed = read_file(b"settings", part(&name, 0, length), &mut file);
+    if !filed.good {
+        return 2;
+    }
+    let count = filed.count;
+    tell_settings(part(&name, 0, length), part(&file, 0, count), filed.whole)
+}
+
+// A byte more than a log may have, so that a longer one is told.
+fn log_room() -> [u8; 65537]
+    ensures { λ r. ⌜ 65537 ≡ length r ⌝ }
+{
+    [0; 65537]
+}
+
+fn run_show() -> u8 {
+    if !has_arguments(1, b"show", b"one argument, a log") {
+        return 2;
+    }
+    let mut name = io::buffer();
+    let length = os::arg(2, &mut name);
+    let mut log = log_room();
+    let filed = read_file(b"show", part(&name, 0, length), &mut log);
+    if !filed.good {
+        return 2;
+    }
+    let count = filed.count;
+    tell_log(part(&log, 0, count))
+}
+
+// The settings of a radio; or the verdict, 1 or 2, where there are none.
+struct Fitted {
+    verdict: u8,
+    settings: Settings,
+}
+
+// The settings file that is the first argument of a word. One that is refused stops the word at its line.
+fn settings_argument(word: &[u8]) -> Fitted {
+    let mut name = io::buffer();
+    let length = os::arg(2, &mut name);
+    let mut file = io::large_buffer();
+    let filed = read_file(word, part(&name, 0, length), &mut file);
+    if !filed.good {
+        return Fitted {
+            verdict: 2,
+            settings: Settings::NONE,
+        };
+    }
+    let count = filed.count;
+    let read = read_settings(part(&file, 0, count));
+    let settings = read.settings;
+    if read.answer != 0 {
+        let verdict = tell_settings(part(&name, 0, length), part(&file, 0, count), filed.whole);
+        return Fitted { verdict, settings };
+    }
+    Fitted {
+        verdict: 0,
+        settings,
+    }
+}
+
+fn run_judge() -> u8 {
+    if !has_arguments(2, b"judge", b"two arguments, a settings file and a log") {
+        return 2;
+    }
+    let fitted = settings_argument(b"judge");
+    if fitted.verdict != 0 {
+        return fitted.verdict;
+    }
+    let settings = fitted.settings;
+    judge_log(settings)
+}
+
+fn judge_log(settings: Settings) -> u8 {
+    let mut name = io::buffer();
+    let length = os::arg(3, &mut name);
+    let mut log = log_room();
+    let filed = read_file(b"judge", part(&name, 0, length), &mut log);
+    if !filed.good {
+        return 2;
+    }
+    let count = filed.count;
+    tell_judged(settings, part(&log, 0, count))
+}
+
+fn run_record() -> u8 {
+    if !has_arguments(
+        3,
+        b"record",
+        b"three arguments, a settings file, a script and the name of the log to make",
+    ) {
+        return 2;
+    }
+    let fitted = settings_argument(b"record");
+    if fitted.verdict != 0 {
+        return fitted.verdict;
+    }
+    let settings = fitted.settings;
+    record_log(settings)
+}
+
+// The script and the log that `record` makes of it.
+fn record_log(settings: Settings) -> u8 {
+    let mut script = io::buffer();
+    let length = os::arg(3, &mut script);
+    let mut log = io::buffer();
+    let count = os::arg(4, &mut log);
+    record_words::run(settings, part(&script, 0, length), part(&log, 0, count))
+}
+
+fn run_pcap() -> u8 {
+    if !has_arguments(
+        2,
+        b"pcap",
+        b"two arguments, a log and the name of the capture file to make",
+    ) {
+        return 2;
+    }
+    let mut name = io::buffer();
+    let length = os::arg(2, &mut name);
+    let mut log = log_room();
+    let filed = read_file(b"pcap", part(&name, 0, length), &mut log);
+    if !filed.good {
+        return 2;
+    }
+    let count = filed.count;
+    let mut path = io::buffer();
+    let end = os::arg(3, &mut path);
+    write_capture(
+        part(&name, 0, length),
+        part(&log, 0, count),
+        part(&path, 0, end),
+    )
+}

@@ -1,0 +1,70 @@
+// A log made from a script of events: each event goes through the step of a radio with given settings, and what the step gives is recorded. The
+// times of a script are not judged, so that a script can tell of a bad radio too.
+mod making;
+mod refusal;
+
+ghost use mathlib.Core.Path.{_≡_};
+ghost use lib.ListN.{length};
+use filing::close_file;
+use filing::create_file;
+use filing::read_file;
+use judge_words::own_of;
+use making::Made;
+use making::make;
+use refusal::tell_too_long;
+use saying::tell;
+use saying::tell_count;
+use settings::Settings;
+use text::words::part;
+
+// Room for a script whose log is as long as can be.
+fn script_room() -> [u8; 1048576]
+    ensures { λ r. ⌜ 1048576 ≡ length r ⌝ }
+{
+    [0; 1048576]
+}
+
+// Reads the script, makes its log and writes that to a new file. Answers the verdict. Nothing is written unless the whole script goes through.
+pub fn run(settings: Settings, script_path: &[u8], log_path: &[u8]) -> u8 {
+    let mut script = script_room();
+    let filed = read_file(b"record", script_path, &mut script);
+    if !filed.good {
+        return 2;
+    }
+    if !filed.whole {
+        tell_too_long(script_path);
+        return 1;
+    }
+    let count = filed.count;
+    let identity = settings.identity;
+    let named = settings.count;
+    let own = own_of(settings);
+    let mut log = io::large_buffer();
+    let made = make(
+        own,
+        part(&identity, 0, named),
+        script_path,
+        part(&script, 0, count),
+        &mut log,
+    );
+    match made {
+        Made::Refused => 1,
+        Made::Whole(entries, used) => write_log(log_path, part(&log, 0, used), entries),
+    }
+}
+
+fn write_log(path: &[u8], log: &[u8], entries: usize) -> u8 {
+    let descriptor = create_file(b"record", path);
+    if descriptor < 0 {
+        return 2;
+    }
+    let whole = io::write_all(descriptor, log);
+    if !close_file(b"record", path, descriptor, whole) {
+        return 2;
+    }
+    tell(path);
+    tell(b": ");
+    tell_count(entries, b" entry, ", b" entries, ");
+    tell_count(log.len(), b" byte\n", b" bytes\n");
+    0
+}

@@ -1,0 +1,106 @@
+// Why a script is refused: the line's number, its text, what is wrong there and what is wanted.
+use log_words::entry::tell_long;
+use saying::tell;
+use saying::tell_number;
+use script::Fault;
+use script::names::EVENT_NAMES;
+use script::words::Word;
+use settings_words::line::tell_number_of;
+use settings_words::line::tell_quoted;
+use settings_words::line::tell_text;
+use text::words::part;
+
+// The line can't be read; its time lies before that of the event before, or more than a day behind it; the step gives an answer that no log holds; or
+// the log has no room for the entry.
+pub(crate) enum Why {
+    Unreadable(Fault, Word),
+    GoesBack(u64),
+    TooLate,
+    Answered(u8),
+    LogFull,
+}
+
+fn tell_start(path: &[u8]) {
+    tell(path);
+    tell(b": the script is refused, and no log is made\n");
+}
+
+pub(crate) fn tell_too_long(path: &[u8]) {
+    tell_start(path);
+    tell(b"it has over 1,048,576 bytes\n");
+}
+
+pub(crate) fn tell_refusal(path: &[u8], number: usize, line: &[u8], why: Why) {
+    tell_start(path);
+    tell_number_of(number);
+    tell_text(line);
+    tell_number_of(number);
+    tell_why(line, why);
+    tell(b"\n");
+}
+
+fn tell_why(line: &[u8], why: Why) {
+    match why {
+        Why::Unreadable(fault, word) => {
+            tell_found(line, word);
+            tell_wanted(fault);
+        }
+        Why::GoesBack(before) => {
+            tell(b"the time goes back: the event before is at ");
+            tell_long(before);
+            tell(b" ms, and times never go back");
+        }
+        Why::TooLate => tell(
+            b"the event before lies over 86400000 ms (a day) back, and no log holds so long a time between two entries",
+        ),
+        Why::Answered(answer) => tell_answer(answer),
+        Why::LogFull => tell(
+            b"with this event the log has over 65,536 bytes (answer 10): make a shorter one",
+        ),
+    }
+}
+
+// A log holds only the answers 0 to 3.
+fn tell_answer(answer: u8) {
+    tell(b"the step answers ");
+    tell_number(answer);
+    match answer {
+        4 => tell(b", argument outside its range: a transaction value is 0 to 6"),
+        6 => tell(b", received message over 251 octets: it has at most 251 octets"),
+        _ => tell(b", and a log holds only answers 0 to 3"),
+    }
+}
+
+// What stands where something else is wanted.
+fn tell_found(line: &[u8], word: Word) {
+    if word.count == 0 {
+        tell(b"the line ends where ");
+        return;
+    }
+    tell_quoted(part(line, word.start, word.count));
+    tell(b" stands where ");
+}
+
+fn tell_wanted(fault: Fault) {
+    match fault {
+        Fault::Time => tell(
+            b"the time is wanted: milliseconds from the start of the log, a whole number without a leading zero",
+        ),
+        Fault::Event => {
+            tell(b"an event is wanted, one of: ");
+            tell(&EVENT_NAMES);
+        }
+        Fault::Value => tell(b"value=N is wanted: the transaction value, N from 0 to 6"),
+        Fault::Reference => tell(
+            b"reference=H is wanted: the call reference, H being 8 hexadecimal digits",
+        ),
+        Fault::Mode => tell(
+            b"the mode is wanted, in which the message was received: acknowledged or unacknowledged",
+        ),
+        Fault::Digit => tell(b"octets of the message are wanted: hexadecimal digits, two an octet"),
+        Fault::HalfOctet => tell(b"one more digit is wanted: the last octet is half there"),
+        Fault::TooLong => tell(b"the message is to end: it has at most 251 octets"),
+        Fault::Surplus => tell(b"the line is to end"),
+        Fault::Tab => tell(b"a space is wanted: words are parted by spaces"),
+    }
+}

@@ -1,0 +1,245 @@
+// A script of events, from which a log is made: one line of it, read. A line is TIME EVENT [DATA..], its words parted by one or more spaces.
+// A line that starts with # and one without words say nothing.
+mod joined;
+pub mod names;
+pub mod words;
+
+ghost use Prim.Native.Nat.{_≤_};
+ghost use lib.ListN.{length};
+use joined::Joined;
+use joined::join;
+use log::Reference;
+use names::event_named;
+use text::decimal::number_of;
+use text::hex::read_hex;
+use text::words::find;
+use text::words::part;
+use text::words::same;
+use words::Word;
+use words::word_from;
+
+const TAB: u8 = 9;
+
+const CR: u8 = 13;
+
+// Later than the last entry of any log: 65,536 times 86,400,000.
+pub const LATEST: u64 = 5662310400000;
+
+// An event of a script: its time in milliseconds from the start, its number, and what it carries; what it does not carry is 0. The octets of
+// a message are the first `count` of the buffer that is lent for them.
+pub struct Told {
+    pub time: u64,
+    pub event: u8,
+    pub value: u8,
+    pub reference: Reference,
+    pub mode: u8,
+    pub count: usize,
+}
+
+// What can't be read: the word of that name; a character that is no hexadecimal digit; a last octet that is half there; more than 512 octets, or than the
+// buffer has; a word behind the last; a tab.
+pub enum Fault {
+    Time,
+    Event,
+    Value,
+    Reference,
+    Mode,
+    Digit,
+    HalfOctet,
+    TooLong,
+    Surplus,
+    Tab,
+}
+
+// What a line is. A fault comes with the word where it is, which has no characters where the line ends too early.
+pub enum Line {
+    Nothing,
+    Event(Told),
+    Wrong(Fault, Word),
+}
+
+// The line without the carriage return that files from Windows have before each line feed.
+fn without_return(line: &[u8]) -> &[u8] {
+    let count = line.len();
+    if count == 0 {
+        return line;
+    }
+    if line[count - 1] == CR {
+        return part(line, 0, count - 1);
+    }
+    line
+}
+
+fn says_nothing(line: &[u8]) -> bool {
+    let word = word_from(line, 0);
+    let comment = same(part(line, 0, 1), b"#");
+    comment | (word.count == 0)
+}
+
+// Reads a line, which has no line feed. The octets of a message are put over the start of `octets`.
+pub fn read_line(line: &[u8], octets: &mut [u8]) -> Line {
+    let text = without_return(line);
+    if says_nothing(text) {
+        return Line::Nothing;
+    }
+    let tab = find(text, TAB);
+    if tab < text.len() {
+        return Line::Wrong(
+            Fault::Tab,
+            Word {
+                start: tab,
+                count: 1,
+                next: tab,
+            },
+        );
+    }
+    let word = word_from(text, 0);
+    let time = number_of(part(text, word.start, word.count), LATEST);
+    if !time.good {
+        return Line::Wrong(Fault::Time, word);
+    }
+    read_event(text, word.next, time.value, octets)
+}
+
+// The event's name and what stands behind it.
+fn read_event(line: &[u8], from: usize, time: u64, octets: &mut [u8]) -> Line
+    requires { ⌜ from ≤ length (now line) ⌝ }
+{
+    let word = word_from(line, from);
+    let event = event_named(part(line, word.start, word.count));
+    if event == 0 {
+        return Line::Wrong(Fault::Event, word);
+    }
+    let reference = Reference {
+        first: 0,
+        second: 0,
+        third: 0,
+        fourth: 0,
+    };
+    let told = Told {
+        time,
+        event,
+        value: 0,
+        reference,
+        mode: 0,
+        count: 0,
+    };
+    if log::carries_call(event as u32) {
+        return read_value(line, word.next, told);
+    }
+    if event == 18 {
+        return read_mode(line, word.next, told, octets);
+    }
+    finish(line, word.next, told)
+}
+
+// Nothing may stand behind the last word.
+fn finish(line: &[u8], from: usize, told: Told) -> Line
+    requires { ⌜ from ≤ length (now line) ⌝ }
+{
+    let word = word_from(line, from);
+    if word.count == 0 {
+        return Line::Event(told);
+    }
+    Line::Wrong(Fault::Surplus, word)
+}
+
+// What stands behind the start of a word; nothing where the word starts otherwise.
+fn behind_start<'a>(line: &'a [u8], word: Word, start: &[u8]) -> &'a [u8] {
+    let count = start.len();
+    if word.count < count {
+        return part(line, 0, 0);
+    }
+    if !same(part(line, word.start, count), start) {
+        return part(line, 0, 0);
+    }
+    part(
+        line,
+        std::num::wrapping_add_usize(word.start, count),
+        word.count - count,
+    )
+}
+
+// `value=N`, and the reference behind it.
+fn read_value(line: &[u8], from: usize, told: Told) -> Line
+    requires { ⌜ from ≤ length (now line) ⌝ }
+{
+    let word = word_from(line, from);
+    let number = number_of(behind_start(line, word, b"value="), 255);
+    if !number.good {
+        return Line::Wrong(Fault::Value, word);
+    }
+    let reference = told.reference;
+    let valued = Told {
+        time: told.time,
+        event: told.event,
+        value: number.value as u8,
+        reference,
+        mode: 0,
+        count: 0,
+    };
+    read_reference(line, word.next, valued)
+}
+
+// `reference=` and 8 hexadecimal digits.
+fn read_reference(line: &[u8], from: usize, told: Told) -> Line
+    requires { ⌜ from ≤ length (now line) ⌝ }
+{
+    let word = word_from(line, from);
+    let mut four = [0u8; 4];
+    let spelt = read_hex(behind_start(line, word, b"reference="), true, &mut four, 0);
+    if spelt.count != 4 {
+        return Line::Wrong(Fault::Reference, word);
+    }
+    let reference = Reference {
+        first: four[0],
+        second: four[1],
+        third: four[2],
+        fourth: four[3],
+    };
+    let called = Told {
+        time: told.time,
+        event: told.event,
+        value: told.value,
+        reference,
+        mode: 0,
+        count: 0,
+    };
+    finish(line, word.next, called)
+}
+
+// The mode of a message by its name, 2 for none.
+fn mode_named(name: &[u8]) -> u8 {
+    if same(name, b"acknowledged") {
+        return 0;
+    }
+    if same(name, b"unacknowledged") {
+        return 1;
+    }
+    2
+}
+
+// `acknowledged` or `unacknowledged`, and the octets behind it.
+fn read_mode(line: &[u8], from: usize, told: Told, octets: &mut [u8]) -> Line
+    requires { ⌜ from ≤ length (now line) ⌝ }
+{
+    let word = word_from(line, from);
+    let mode = mode_named(part(line, word.start, word.count));
+    if mode == 2 {
+        return Line::Wrong(Fault::Mode, word);
+    }
+    match join(line, word.next, octets) {
+        Joined::Count(count) => {
+            let reference = told.reference;
+            Line::Event(Told {
+                time: told.time,
+                event: told.event,
+                value: 0,
+                reference,
+                mode,
+                count,
+            })
+        }
+        Joined::Torn(fault, place) => Line::Wrong(fault, place),
+    }
+}
