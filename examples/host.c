@@ -15,10 +15,10 @@ static const struct timer {
     uint32_t length_ms;
     uint32_t expiry; /* the event to tell */
 } timers[4] = {
-    {HEIDEZIRKEL_T_MM_EST, "T_MM-est", 5000, HEIDEZIRKEL_MM_EST_EXPIRED},
-    {HEIDEZIRKEL_T_TERM, "T_term", 10000, HEIDEZIRKEL_TERM_EXPIRED},
-    {HEIDEZIRKEL_T_CONN_REQ, "T_conn req", 0, HEIDEZIRKEL_CONN_REQ_EXPIRED},
-    {HEIDEZIRKEL_T_NO_CHANNEL, "T_no channel", 3000, HEIDEZIRKEL_NO_CHANNEL_EXPIRED},
+    {HEIDEZIRKEL_T_MM_EST, "T_MM-est", 5000, HEIDEZIRKEL_EVENT_MM_EST_EXPIRED},
+    {HEIDEZIRKEL_T_TERM, "T_term", 10000, HEIDEZIRKEL_EVENT_TERM_EXPIRED},
+    {HEIDEZIRKEL_T_CONN_REQ, "T_conn req", 0, HEIDEZIRKEL_EVENT_CONN_REQ_EXPIRED},
+    {HEIDEZIRKEL_T_NO_CHANNEL, "T_no channel", 3000, HEIDEZIRKEL_EVENT_NO_CHANNEL_EXPIRED},
 };
 
 struct host {
@@ -137,29 +137,29 @@ struct happening {
     uint8_t message[4];
 };
 
-#define CALL(value_) {.number = HEIDEZIRKEL_NOTIFIED, .value = value_, .reference = {0x00, 0x00, 0x2a, 0x10}}
+#define CALL(value_) {.number = HEIDEZIRKEL_EVENT_NOTIFIED, .value = value_, .reference = {0x00, 0x00, 0x2a, 0x10}}
 
 static const struct happening heard[] = {
     {0, CALL(1), 0, {0}},
-    {2000, {.number = HEIDEZIRKEL_JOIN}, 0, {0}},
-    {6500, {.number = HEIDEZIRKEL_GROUP_RECEIVE}, 0, {0}},
-    {60000, {.number = HEIDEZIRKEL_NO_CHANNEL}, 0, {0}},
-    {62000, {.number = HEIDEZIRKEL_NO_CHANNEL}, 0, {0}},
-    {62500, {.number = HEIDEZIRKEL_CHANNEL_AVAILABLE}, 0, {0}},
-    {70000, {.number = HEIDEZIRKEL_RECEIVED, .mode = 1}, 2, {0x11, 0x39}},              /* GET STATUS */
-    {80000, {.number = HEIDEZIRKEL_JOIN}, 0, {0}},                                      /* the button once more */
-    {120000, {.number = HEIDEZIRKEL_RECEIVED}, 4, {0x11, 0x34, 0x01, 0x90}},            /* TERMINATION: normal call clearing */
+    {2000, {.number = HEIDEZIRKEL_EVENT_JOIN}, 0, {0}},
+    {6500, {.number = HEIDEZIRKEL_EVENT_GROUP_RECEIVE}, 0, {0}},
+    {60000, {.number = HEIDEZIRKEL_EVENT_NO_CHANNEL}, 0, {0}},
+    {62000, {.number = HEIDEZIRKEL_EVENT_NO_CHANNEL}, 0, {0}},
+    {62500, {.number = HEIDEZIRKEL_EVENT_CHANNEL_AVAILABLE}, 0, {0}},
+    {70000, {.number = HEIDEZIRKEL_EVENT_RECEIVED, .mode = 1}, 2, {0x11, 0x39}},              /* GET STATUS */
+    {80000, {.number = HEIDEZIRKEL_EVENT_JOIN}, 0, {0}},                                      /* the button once more */
+    {120000, {.number = HEIDEZIRKEL_EVENT_RECEIVED}, 4, {0x11, 0x34, 0x01, 0x90}},            /* TERMINATION: normal call clearing */
 };
 static const struct happening lost[] = {
     {200000, CALL(2), 0, {0}},
-    {201000, {.number = HEIDEZIRKEL_JOIN}, 0, {0}},
-    {202000, {.number = HEIDEZIRKEL_GROUP_RECEIVE}, 0, {0}},
-    {210000, {.number = HEIDEZIRKEL_NO_CHANNEL}, 0, {0}},
-    {212000, {.number = HEIDEZIRKEL_NO_CHANNEL}, 0, {0}},
+    {201000, {.number = HEIDEZIRKEL_EVENT_JOIN}, 0, {0}},
+    {202000, {.number = HEIDEZIRKEL_EVENT_GROUP_RECEIVE}, 0, {0}},
+    {210000, {.number = HEIDEZIRKEL_EVENT_NO_CHANNEL}, 0, {0}},
+    {212000, {.number = HEIDEZIRKEL_EVENT_NO_CHANNEL}, 0, {0}},
 };
 static const struct happening not_let_in[] = {
     {300000, CALL(3), 0, {0}},
-    {303000, {.number = HEIDEZIRKEL_JOIN}, 0, {0}},
+    {303000, {.number = HEIDEZIRKEL_EVENT_JOIN}, 0, {0}},
 };
 
 static void live(struct host *host, const char *title, const struct happening *story, size_t count, uint64_t end_ms) {

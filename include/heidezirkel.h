@@ -28,10 +28,10 @@
  * When a timer has run its length, tell the event of its expiry, at once: a log in which an expiry comes late is not explained by the timer.
  *
  *   bit of octet 2                     length           event of its expiry
- *   HEIDEZIRKEL_T_MM_EST      8         5,000 ms        HEIDEZIRKEL_MM_EST_EXPIRED      14
- *   HEIDEZIRKEL_T_TERM        4        10,000 ms        HEIDEZIRKEL_TERM_EXPIRED        15
- *   HEIDEZIRKEL_T_CONN_REQ    2        joining_ms       HEIDEZIRKEL_CONN_REQ_EXPIRED    16
- *   HEIDEZIRKEL_T_NO_CHANNEL  1         3,000 ms        HEIDEZIRKEL_NO_CHANNEL_EXPIRED  17
+ *   HEIDEZIRKEL_T_MM_EST      8         5,000 ms        HEIDEZIRKEL_EVENT_MM_EST_EXPIRED      14
+ *   HEIDEZIRKEL_T_TERM        4        10,000 ms        HEIDEZIRKEL_EVENT_TERM_EXPIRED        15
+ *   HEIDEZIRKEL_T_CONN_REQ    2        joining_ms       HEIDEZIRKEL_EVENT_CONN_REQ_EXPIRED    16
+ *   HEIDEZIRKEL_T_NO_CHANNEL  1         3,000 ms        HEIDEZIRKEL_EVENT_NO_CHANNEL_EXPIRED  17
  *
  * At most one of them runs in a fit context.
  */
@@ -127,17 +127,17 @@ struct heidezirkel_settings {
     uint32_t joining_ms; /* of 0: the length of T_conn req, 10,000 to 30,000 ms; else 0 */
 };
 enum { /* fault */
-    HEIDEZIRKEL_NO_LINE_FEED = 1,
-    HEIDEZIRKEL_UNKNOWN_NAME = 2,
-    HEIDEZIRKEL_BAD_KEY = 3,
-    HEIDEZIRKEL_BAD_CLASSMARK = 4,
-    HEIDEZIRKEL_BAD_IDENTITY = 5,
-    HEIDEZIRKEL_BAD_JOINING = 6,
-    HEIDEZIRKEL_REPEATED_NAME = 7,
-    HEIDEZIRKEL_MISSING_KEY = 8,
-    HEIDEZIRKEL_MISSING_CLASSMARK = 9,
-    HEIDEZIRKEL_MISSING_IDENTITY = 10,
-    HEIDEZIRKEL_MISSING_JOINING = 11
+    HEIDEZIRKEL_LINE_NO_LINE_FEED = 1,
+    HEIDEZIRKEL_LINE_UNKNOWN_NAME = 2,
+    HEIDEZIRKEL_LINE_BAD_KEY = 3,
+    HEIDEZIRKEL_LINE_BAD_CLASSMARK = 4,
+    HEIDEZIRKEL_LINE_BAD_IDENTITY = 5,
+    HEIDEZIRKEL_LINE_BAD_JOINING = 6,
+    HEIDEZIRKEL_LINE_REPEATED_NAME = 7,
+    HEIDEZIRKEL_LINE_MISSING_KEY = 8,
+    HEIDEZIRKEL_LINE_MISSING_CLASSMARK = 9,
+    HEIDEZIRKEL_LINE_MISSING_IDENTITY = 10,
+    HEIDEZIRKEL_LINE_MISSING_JOINING = 11
 };
 
 /* Reads a settings file, lent whole as `length` bytes: four lines, in any order, each ended by a line feed, as in
@@ -151,32 +151,32 @@ struct heidezirkel_settings heidezirkel_read_settings(const uint8_t *file, size_
 /* ---- The step ---------------------------------------------------------------------------------------------------------------------- */
 
 enum { /* what happens: the numbers of events */
-    HEIDEZIRKEL_SET_UP = 1,                   /* the user asks for a call, with an MM connection first; carries value and reference */
-    HEIDEZIRKEL_IMMEDIATE_SET_UP = 2,         /* the user asks for a call at once; carries value and reference */
-    HEIDEZIRKEL_JOIN = 3,                     /* the user takes the call that was notified */
-    HEIDEZIRKEL_TERMINATE = 4,                /* the user ends the call for everyone */
-    HEIDEZIRKEL_RELEASE = 5,                  /* the user leaves the call */
-    HEIDEZIRKEL_MM_ESTABLISHED = 6,           /* lower layers: the MM connection is there */
-    HEIDEZIRKEL_MM_FAILED = 7,                /* lower layers: the MM connection could not be established */
-    HEIDEZIRKEL_RADIO_LINK_FAILURE = 8,       /* lower layers */
-    HEIDEZIRKEL_ABORT_OR_RELEASE = 9,         /* lower layers: the network's abort or release was detected */
-    HEIDEZIRKEL_NOTIFIED = 10,                /* lower layers: a broadcast call exists; carries value and reference */
-    HEIDEZIRKEL_GROUP_RECEIVE = 11,           /* lower layers: group receive mode is entered */
-    HEIDEZIRKEL_NO_CHANNEL = 12,              /* lower layers: no channel */
-    HEIDEZIRKEL_CHANNEL_AVAILABLE = 13,       /* lower layers: a channel is available */
-    HEIDEZIRKEL_MM_EST_EXPIRED = 14,          /* the host's clock: see TIMERS above */
-    HEIDEZIRKEL_TERM_EXPIRED = 15,
-    HEIDEZIRKEL_CONN_REQ_EXPIRED = 16,
-    HEIDEZIRKEL_NO_CHANNEL_EXPIRED = 17,
-    HEIDEZIRKEL_RECEIVED = 18                 /* lower layers: a message came; carries mode and octets */
+    HEIDEZIRKEL_EVENT_SET_UP = 1,             /* the user asks for a call, with an MM connection first; carries value and reference */
+    HEIDEZIRKEL_EVENT_IMMEDIATE_SET_UP = 2,   /* the user asks for a call at once; carries value and reference */
+    HEIDEZIRKEL_EVENT_JOIN = 3,               /* the user takes the call that was notified */
+    HEIDEZIRKEL_EVENT_TERMINATE = 4,          /* the user ends the call for everyone */
+    HEIDEZIRKEL_EVENT_RELEASE = 5,            /* the user leaves the call */
+    HEIDEZIRKEL_EVENT_MM_ESTABLISHED = 6,     /* lower layers: the MM connection is there */
+    HEIDEZIRKEL_EVENT_MM_FAILED = 7,          /* lower layers: the MM connection could not be established */
+    HEIDEZIRKEL_EVENT_RADIO_LINK_FAILURE = 8, /* lower layers */
+    HEIDEZIRKEL_EVENT_ABORT_OR_RELEASE = 9,   /* lower layers: the network's abort or release was detected */
+    HEIDEZIRKEL_EVENT_NOTIFIED = 10,          /* lower layers: a broadcast call exists; carries value and reference */
+    HEIDEZIRKEL_EVENT_GROUP_RECEIVE = 11,     /* lower layers: group receive mode is entered */
+    HEIDEZIRKEL_EVENT_NO_CHANNEL = 12,        /* lower layers: no channel */
+    HEIDEZIRKEL_EVENT_CHANNEL_AVAILABLE = 13, /* lower layers: a channel is available */
+    HEIDEZIRKEL_EVENT_MM_EST_EXPIRED = 14,    /* the host's clock: see TIMERS above */
+    HEIDEZIRKEL_EVENT_TERM_EXPIRED = 15,
+    HEIDEZIRKEL_EVENT_CONN_REQ_EXPIRED = 16,
+    HEIDEZIRKEL_EVENT_NO_CHANNEL_EXPIRED = 17,
+    HEIDEZIRKEL_EVENT_RECEIVED = 18           /* lower layers: a message came; carries mode and octets */
 };
 enum { /* what the host is to do: the actions, added up */
-    HEIDEZIRKEL_INFORM = 1,                   /* inform higher layers: tell the user what happened */
-    HEIDEZIRKEL_REQUEST_MM = 2,               /* request an MM connection */
-    HEIDEZIRKEL_REQUEST_GROUP_RECEIVE = 4,    /* request group receive mode */
-    HEIDEZIRKEL_ABORT = 8,                    /* ask lower layers to abort the call */
-    HEIDEZIRKEL_RELEASE_CALL = 16,            /* ask lower layers to release the call */
-    HEIDEZIRKEL_MM_EXISTS = 32                /* tell lower layers that the MM connection exists implicitly */
+    HEIDEZIRKEL_DO_INFORM = 1,                /* inform higher layers: tell the user what happened */
+    HEIDEZIRKEL_DO_REQUEST_MM = 2,            /* request an MM connection */
+    HEIDEZIRKEL_DO_REQUEST_GROUP_RECEIVE = 4, /* request group receive mode */
+    HEIDEZIRKEL_DO_ABORT = 8,                 /* ask lower layers to abort the call */
+    HEIDEZIRKEL_DO_RELEASE = 16,              /* ask lower layers to release the call */
+    HEIDEZIRKEL_DO_TELL_MM_EXISTS = 32        /* tell lower layers that the MM connection exists implicitly */
 };
 
 /* An event and its data. What an event does not carry has no effect and may be anything; zero is a good habit. */
@@ -204,15 +204,15 @@ struct heidezirkel_step heidezirkel_step(uint8_t context[16], const uint8_t sett
 
 /* heidezirkel_step reads and writes messages itself: a host needs what stands here only to show messages to people or to make some for a test. */
 enum { /* message types, table 9.1 of the standard with bit 7 zero */
-    HEIDEZIRKEL_IMMEDIATE_SETUP = 0x31,     /* radio to network */
-    HEIDEZIRKEL_SETUP = 0x32,               /* radio to network */
-    HEIDEZIRKEL_CONNECT = 0x33,             /* network to radio */
-    HEIDEZIRKEL_TERMINATION = 0x34,         /* network to radio */
-    HEIDEZIRKEL_TERMINATION_REQUEST = 0x35, /* radio to network */
-    HEIDEZIRKEL_TERMINATION_REJECT = 0x36,  /* network to radio */
-    HEIDEZIRKEL_STATUS = 0x38,              /* radio to network */
-    HEIDEZIRKEL_GET_STATUS = 0x39,          /* network to radio */
-    HEIDEZIRKEL_SET_PARAMETER = 0x3a        /* network to radio */
+    HEIDEZIRKEL_TYPE_IMMEDIATE_SETUP = 0x31,     /* radio to network */
+    HEIDEZIRKEL_TYPE_SETUP = 0x32,               /* radio to network */
+    HEIDEZIRKEL_TYPE_CONNECT = 0x33,             /* network to radio */
+    HEIDEZIRKEL_TYPE_TERMINATION = 0x34,         /* network to radio */
+    HEIDEZIRKEL_TYPE_TERMINATION_REQUEST = 0x35, /* radio to network */
+    HEIDEZIRKEL_TYPE_TERMINATION_REJECT = 0x36,  /* network to radio */
+    HEIDEZIRKEL_TYPE_STATUS = 0x38,              /* radio to network */
+    HEIDEZIRKEL_TYPE_GET_STATUS = 0x39,          /* network to radio */
+    HEIDEZIRKEL_TYPE_SET_PARAMETER = 0x3a        /* network to radio */
 };
 
 /* A message taken apart. A run of octets (identity, cause) is a place and a length: in the octets that were read, or in the source that is lent for
@@ -238,10 +238,10 @@ struct heidezirkel_reading {
     struct heidezirkel_message message; /* of 0; else all zero */
 };
 enum { /* fault: the first that is found, in this order */
-    HEIDEZIRKEL_UNDER_TWO_OCTETS = 1,
-    HEIDEZIRKEL_OTHER_DISCRIMINATOR = 2, /* the low four bits of octet 1 are not 1 */
-    HEIDEZIRKEL_UNKNOWN_TYPE = 3,
-    HEIDEZIRKEL_BAD_MANDATORY = 4        /* the mandatory part is wrong, or an unknown element asks to be known */
+    HEIDEZIRKEL_FAULT_UNDER_TWO_OCTETS = 1,
+    HEIDEZIRKEL_FAULT_OTHER_DISCRIMINATOR = 2, /* the low four bits of octet 1 are not 1 */
+    HEIDEZIRKEL_FAULT_UNKNOWN_TYPE = 3,
+    HEIDEZIRKEL_FAULT_BAD_MANDATORY = 4        /* the mandatory part is wrong, or an unknown element asks to be known */
 };
 
 /* Reads a message, without a context. Answers 6 for over 251 octets, 0 and the message, or 13 and its first fault. */

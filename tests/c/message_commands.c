@@ -10,15 +10,15 @@ static const struct kind {
     const char *name;
     const char *fields;
 } kinds[] = {
-    {HEIDEZIRKEL_CONNECT, "connect", "ro"},
-    {HEIDEZIRKEL_GET_STATUS, "get_status", "i"},
-    {HEIDEZIRKEL_IMMEDIATE_SETUP, "immediate_setup", "kcir"},
-    {HEIDEZIRKEL_SET_PARAMETER, "set_parameter", "a"},
-    {HEIDEZIRKEL_SETUP, "setup", "r"},
-    {HEIDEZIRKEL_STATUS, "status", "us"},
-    {HEIDEZIRKEL_TERMINATION, "termination", "u"},
-    {HEIDEZIRKEL_TERMINATION_REJECT, "termination_reject", "u"},
-    {HEIDEZIRKEL_TERMINATION_REQUEST, "termination_request", "r"},
+    {HEIDEZIRKEL_TYPE_CONNECT, "connect", "ro"},
+    {HEIDEZIRKEL_TYPE_GET_STATUS, "get_status", "i"},
+    {HEIDEZIRKEL_TYPE_IMMEDIATE_SETUP, "immediate_setup", "kcir"},
+    {HEIDEZIRKEL_TYPE_SET_PARAMETER, "set_parameter", "a"},
+    {HEIDEZIRKEL_TYPE_SETUP, "setup", "r"},
+    {HEIDEZIRKEL_TYPE_STATUS, "status", "us"},
+    {HEIDEZIRKEL_TYPE_TERMINATION, "termination", "u"},
+    {HEIDEZIRKEL_TYPE_TERMINATION_REJECT, "termination_reject", "u"},
+    {HEIDEZIRKEL_TYPE_TERMINATION_REQUEST, "termination_request", "r"},
 };
 
 #define KINDS (sizeof kinds / sizeof kinds[0])

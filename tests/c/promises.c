@@ -29,7 +29,7 @@ static void check_clear(void) {
 static uint32_t answer_to(const uint8_t octets[16], size_t room) {
     struct lent context = lend_octets(octets, 16);
     struct lent reply = lend(room);
-    struct heidezirkel_event event = {.number = HEIDEZIRKEL_CHANNEL_AVAILABLE};
+    struct heidezirkel_event event = {.number = HEIDEZIRKEL_EVENT_CHANNEL_AVAILABLE};
     struct heidezirkel_step step = heidezirkel_step(context.octets, settings, event, nothing, 0, reply.octets, room);
     bool refused = step.answer != HEIDEZIRKEL_TAKEN;
     EXPECT(!refused || (kept(&context, 0) && step.actions == 0 && step.reply_length == 0));
@@ -73,17 +73,17 @@ static void check_reason(const char *text, size_t line, uint32_t fault) {
 
 /* One file for each reason. */
 static void check_reasons(void) {
-    check_reason("cksn=3\nclassmark=3319a2", 2, HEIDEZIRKEL_NO_LINE_FEED);
-    check_reason("cksn=3\n\n", 2, HEIDEZIRKEL_UNKNOWN_NAME);
-    check_reason("cksn=8\n", 1, HEIDEZIRKEL_BAD_KEY);
-    check_reason("cksn=7\nclassmark=3319a\n", 2, HEIDEZIRKEL_BAD_CLASSMARK);
-    check_reason("identity=f\n", 1, HEIDEZIRKEL_BAD_IDENTITY);
-    check_reason("identity=f4\ncksn=0\nconn_req_ms=9999\n", 3, HEIDEZIRKEL_BAD_JOINING);
-    check_reason("cksn=3\ncksn=4\n", 2, HEIDEZIRKEL_REPEATED_NAME);
-    check_reason("", 1, HEIDEZIRKEL_MISSING_KEY);
-    check_reason("conn_req_ms=10000\ncksn=3\n", 3, HEIDEZIRKEL_MISSING_CLASSMARK);
-    check_reason("classmark=3319a2\ncksn=3\n", 3, HEIDEZIRKEL_MISSING_IDENTITY);
-    check_reason("classmark=3319a2\ncksn=3\nidentity=f4\n", 4, HEIDEZIRKEL_MISSING_JOINING);
+    check_reason("cksn=3\nclassmark=3319a2", 2, HEIDEZIRKEL_LINE_NO_LINE_FEED);
+    check_reason("cksn=3\n\n", 2, HEIDEZIRKEL_LINE_UNKNOWN_NAME);
+    check_reason("cksn=8\n", 1, HEIDEZIRKEL_LINE_BAD_KEY);
+    check_reason("cksn=7\nclassmark=3319a\n", 2, HEIDEZIRKEL_LINE_BAD_CLASSMARK);
+    check_reason("identity=f\n", 1, HEIDEZIRKEL_LINE_BAD_IDENTITY);
+    check_reason("identity=f4\ncksn=0\nconn_req_ms=9999\n", 3, HEIDEZIRKEL_LINE_BAD_JOINING);
+    check_reason("cksn=3\ncksn=4\n", 2, HEIDEZIRKEL_LINE_REPEATED_NAME);
+    check_reason("", 1, HEIDEZIRKEL_LINE_MISSING_KEY);
+    check_reason("conn_req_ms=10000\ncksn=3\n", 3, HEIDEZIRKEL_LINE_MISSING_CLASSMARK);
+    check_reason("classmark=3319a2\ncksn=3\n", 3, HEIDEZIRKEL_LINE_MISSING_IDENTITY);
+    check_reason("classmark=3319a2\ncksn=3\nidentity=f4\n", 4, HEIDEZIRKEL_LINE_MISSING_JOINING);
 }
 
 /* A host's log as it grows. */
@@ -119,13 +119,13 @@ static const uint8_t worked_out[] = {
 static void play(struct recording *now) {
     static const uint8_t get_status[] = {0x11, 0x39};
     static const uint8_t termination[] = {0x11, 0x34, 0x01, 0x90};
-    struct heidezirkel_event notified = {.number = HEIDEZIRKEL_NOTIFIED, .value = 1, .reference = {1, 2, 3, 4}};
-    struct heidezirkel_event immediate = {.number = HEIDEZIRKEL_IMMEDIATE_SET_UP, .value = 2, .reference = {5, 6, 7, 8}};
+    struct heidezirkel_event notified = {.number = HEIDEZIRKEL_EVENT_NOTIFIED, .value = 1, .reference = {1, 2, 3, 4}};
+    struct heidezirkel_event immediate = {.number = HEIDEZIRKEL_EVENT_IMMEDIATE_SET_UP, .value = 2, .reference = {5, 6, 7, 8}};
     happen(now, 0, notified, nothing, 0);
-    happen(now, 0, (struct heidezirkel_event){.number = HEIDEZIRKEL_JOIN}, nothing, 0);
-    happen(now, 20000, (struct heidezirkel_event){.number = HEIDEZIRKEL_GROUP_RECEIVE}, nothing, 0);
-    happen(now, 5, (struct heidezirkel_event){.number = HEIDEZIRKEL_RECEIVED, .mode = 1}, get_status, 2);
-    happen(now, 0, (struct heidezirkel_event){.number = HEIDEZIRKEL_RECEIVED}, termination, 4);
+    happen(now, 0, (struct heidezirkel_event){.number = HEIDEZIRKEL_EVENT_JOIN}, nothing, 0);
+    happen(now, 20000, (struct heidezirkel_event){.number = HEIDEZIRKEL_EVENT_GROUP_RECEIVE}, nothing, 0);
+    happen(now, 5, (struct heidezirkel_event){.number = HEIDEZIRKEL_EVENT_RECEIVED, .mode = 1}, get_status, 2);
+    happen(now, 0, (struct heidezirkel_event){.number = HEIDEZIRKEL_EVENT_RECEIVED}, termination, 4);
     happen(now, 0, immediate, nothing, 0);
 }
 
@@ -169,7 +169,7 @@ static void check_judged(const struct recording *now) {
 static void check_zeros(void) {
     static const uint8_t none[13];
     uint8_t context[16] = {0}, reply[255];
-    struct heidezirkel_event event = {.number = HEIDEZIRKEL_NOTIFIED};
+    struct heidezirkel_event event = {.number = HEIDEZIRKEL_EVENT_NOTIFIED};
     EXPECT(heidezirkel_step(context, none, event, nothing, 0, reply, 255).answer == HEIDEZIRKEL_OUT_OF_RANGE);
     EXPECT(heidezirkel_judge(none, worked_out, sizeof worked_out).answer == HEIDEZIRKEL_OUT_OF_RANGE);
 }

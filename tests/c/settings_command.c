@@ -6,7 +6,7 @@ static void look_at_settings(struct heidezirkel_settings read, const struct lent
     bool takes = read.answer == HEIDEZIRKEL_TAKEN;
     promise(kept(settings, takes ? 13 : 0), "settings: refused, and an octet changed");
     promise(takes == (read.line == 0) && takes == (read.fault == 0), "settings: line and fault stand exactly with a refusal");
-    promise(read.fault <= HEIDEZIRKEL_MISSING_JOINING, "settings: a fault over 11");
+    promise(read.fault <= HEIDEZIRKEL_LINE_MISSING_JOINING, "settings: a fault over 11");
     promise(takes || read.joining_ms == 0, "settings: refused, and a joining timer");
     refusals_seen += !takes;
 }
