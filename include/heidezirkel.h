@@ -116,7 +116,7 @@ uint32_t heidezirkel_clear(uint8_t context[16]);
  *   0        ciphering key number, 0 to 7
  *   1 to 3   mobile station classmark
  *   4        how many octets the own identity has, 1 to 8
- *   5 to 12  the own identity, and zeros behind it
+ *   5 to 12  the own identity; what stands behind it has no effect (heidezirkel_read_settings writes zeros there)
  *
  * A key number over 7 and an identity of 0 or over 8 octets are refused by every step and every judgement with 4. So are 13 zeros: a host that let its
  * settings begin as zeros and forgot to look at the answer below runs no call on a default. */
@@ -269,10 +269,12 @@ struct heidezirkel_used {
 /* Begins a log: its version, one byte. Answers 0, or 11 where there is no room. Used is then 1, or 0 where refused. */
 struct heidezirkel_used heidezirkel_begin_log(uint8_t *log, size_t room);
 
-/* Adds an entry behind the bytes used: `delta_ms` after the entry before (of the first: after the log's beginning), up to 86,400,000; the event with its data and
- * message as they were told to the step; what the step gave; the context after it; the reply's octets. Only what is added is changed. With 0 used the
- * version is written first. Tested in this order: 4 used over the room, a number outside its range (answers over 3 are no steps, and not recorded);
- * 10 the log would be over 65,536 bytes; 11 the room. The bytes already used are not looked at, nor whether the entry is true. */
+/* Adds an entry behind the bytes used: `delta_ms` after the entry before (of the first: after the log's beginning), up to 86,400,000; the event with
+ * its data and message as they were told to the step; what the step gave; the context after it; the first reply_length octets of the reply (lend
+ * step.reply_length). Of the step its answer and actions are recorded, of the context its state and parameters (octets 0 and 1); the rest of both has no
+ * effect. Only what is added is changed. With 0 used the version is written first.
+ * Tested in this order: 4 used over the room, or a number outside its range (an answer over 3 is no step, and not recorded); 10 the log would be over
+ * 65,536 bytes; 11 the room. The bytes already used are not looked at, nor whether the entry is true. */
 struct heidezirkel_used heidezirkel_record(uint8_t *log, size_t room, size_t used, uint32_t delta_ms, struct heidezirkel_event event,
     const uint8_t *message, size_t message_length, struct heidezirkel_step step, const uint8_t context[16], const uint8_t *reply,
     size_t reply_length);
@@ -295,7 +297,8 @@ struct heidezirkel_number {
     size_t next;     /* of 0: the place behind it; else 0 */
 };
 
-/* Reads the log's number at place `at`: seven bits a byte, low group first, the top bit set on all but the last byte, shortest form only, at most 5 bytes. */
+/* Reads the log's number at place `at`: seven bits a byte, low group first, the top bit set on all but the last byte, shortest form only, at most
+ * 5 bytes. */
 struct heidezirkel_number heidezirkel_read_number(const uint8_t *octets, size_t length, size_t at);
 
 #ifdef __cplusplus

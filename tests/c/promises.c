@@ -150,6 +150,19 @@ static void check_recorded(struct recording *now) {
     give_back(&other.log);
 }
 
+/* The recorder looks at the answer and actions of a step, at state and parameters of a context, and at the reply's own length. */
+static void check_looked_at(void) {
+    static const uint8_t expected[] = {0x01, 0x00, 0x03, 0x03, 0x00, 0x00, 0x00, 0x00};
+    static const uint8_t context[16] = {0, 0, 255, 255, 1, 2, 3, 4, 5, 6, 7, 8, 9, 10, 11, 12};
+    struct heidezirkel_event join = {.number = HEIDEZIRKEL_EVENT_JOIN, .value = 255, .mode = 255, .reference = {1, 2, 3, 4}};
+    struct heidezirkel_step step = {.answer = HEIDEZIRKEL_NO_STEP, .reply_length = 7};
+    struct lent log = lend(sizeof expected);
+    struct heidezirkel_used recorded = heidezirkel_record(log.octets, log.length, 0, 0, join, settings, 13, step, context, nothing, 0);
+    EXPECT(recorded.answer == HEIDEZIRKEL_TAKEN && recorded.used == sizeof expected);
+    EXPECT(memcmp(log.octets, expected, sizeof expected) == 0);
+    give_back(&log);
+}
+
 static void check_judged(const struct recording *now) {
     struct heidezirkel_judgement judged = heidezirkel_judge(settings, now->log.octets, now->used);
     EXPECT(judged.answer == HEIDEZIRKEL_TAKEN && judged.entry == 6 && judged.least_ms == 20000 && judged.greatest_ms == 30000);
@@ -165,13 +178,17 @@ static void check_judged(const struct recording *now) {
     now->log.octets[0] = 1;
 }
 
-/* No settings: what a host has that began with zeros and did not look. */
-static void check_zeros(void) {
+/* No settings: what a host has that began with zeros and did not look. And octets behind the identity, which have no effect. */
+static void check_settings(void) {
     static const uint8_t none[13];
+    uint8_t behind[13];
     uint8_t context[16] = {0}, reply[255];
     struct heidezirkel_event event = {.number = HEIDEZIRKEL_EVENT_NOTIFIED};
     EXPECT(heidezirkel_step(context, none, event, nothing, 0, reply, 255).answer == HEIDEZIRKEL_OUT_OF_RANGE);
     EXPECT(heidezirkel_judge(none, worked_out, sizeof worked_out).answer == HEIDEZIRKEL_OUT_OF_RANGE);
+    memcpy(behind, settings, 13);
+    behind[9] = 9;
+    EXPECT(heidezirkel_judge(behind, worked_out, sizeof worked_out).answer == HEIDEZIRKEL_TAKEN);
 }
 
 static bool is_number(struct heidezirkel_number found, uint32_t answer, uint32_t value, size_t next) {
@@ -198,8 +215,9 @@ int main(void) {
     check_reasons();
     check_begin(&recording);
     check_recorded(&recording);
+    check_looked_at();
     check_judged(&recording);
-    check_zeros();
+    check_settings();
     check_numbers();
     give_back(&recording.log);
     fprintf(stderr, "promises: %lu refused calls, %lu promises broken\n", refusals_seen, promises_broken);
