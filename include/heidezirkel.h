@@ -1,127 +1,307 @@
-/* heidezirkel.h: broadcast call control of GSM 04.69 for mobile stations, as a C library (libcontroller.a).
+/* heidezirkel.h: broadcast call control of GSM 04.69 (version 7.2.0) for a mobile station, as a C library, libcontroller.a.
  *
- * Every function answers a number of the table below for every input. What it gives and what it leaves in each lent buffer is fixed for all
- * inputs, also where it refuses: a call that is refused (answers 1 and 3 to 13) changes no lent octet.
+ * A broadcast call carries the fire and rockfall warning to the radios of a crew. This library decides what a radio does in such a call: a host
+ * (the firmware) tells it each event as it happens, and it answers with what is to be done and what is to be sent. The host has the clock, the
+ * lower layers and the memory; the library has the rules. It is written in Rattle and proved: what stands below holds for all inputs.
  *
- * Ownership: every buffer is the caller's. The library keeps no pointer and no memory of its own, allocates nothing, and calls nothing; a
- * buffer is used only until the function returns. A pointer is never NULL, also where its length is 0, and the buffers that one call may
- * change overlap no other buffer of that call.
+ * HOW A HOST USES IT
+ *
+ *   1. Once: keep HEIDEZIRKEL_SETTINGS_OCTETS octets that begin as zeros, and fill them with heidezirkel_read_settings. Keep joining_ms too.
+ *   2. Once: keep HEIDEZIRKEL_CONTEXT_OCTETS octets, and clear them with heidezirkel_clear. This is the one context of the radio's one call.
+ *   3. At each event: call heidezirkel_step. Carry out the actions that it gives, send the reply if it has octets, and look at the timers (below).
+ *   4. If a log is wanted: heidezirkel_begin_log once, heidezirkel_record after each step, whatever its answer 0 to 3.
+ * examples/host.c is a whole small host, to read and to begin from.
+ *
+ * ANSWERS. Every function answers a number of the table below, for every input, and never fails in another way. A refused call (answers 1 and 3 to
+ * 13) changes nothing that was lent to it: no octet of a context, of settings, of a reply buffer or of a log. What it returns besides the answer is
+ * fixed too: zeros, but for what is said at the function.
+ *
+ * BUFFERS. Every buffer is the caller's. The library keeps no pointer, has no memory of its own, allocates nothing, calls nothing and never waits;
+ * a buffer is used only until the function returns, so calls over different buffers may run at the same time. A pointer is never NULL, also
+ * where its length is 0, and points to at least as many octets as its length says. A buffer that a call may change (a pointer to uint8_t that is not
+ * const) overlaps no other buffer of the same call.
+ *
+ * TIMERS. The host keeps them. Octet 2 of the context says which of the four run. Compare it before and after each step:
+ *   a bit that became set starts that timer, anew, with its whole length;
+ *   a bit that was cleared stops it;
+ *   a bit that stayed, set or clear, changes nothing: a timer that runs goes on with what is left of it.
+ * When a timer has run its length, tell the event of its expiry, at once: a log in which an expiry comes late is not explained by the timer.
+ *
+ *   bit of octet 2                     length           event of its expiry
+ *   HEIDEZIRKEL_T_MM_EST      8         5,000 ms        HEIDEZIRKEL_EVENT_MM_EST_EXPIRED      14
+ *   HEIDEZIRKEL_T_TERM        4        10,000 ms        HEIDEZIRKEL_EVENT_TERM_EXPIRED        15
+ *   HEIDEZIRKEL_T_CONN_REQ    2        joining_ms       HEIDEZIRKEL_EVENT_CONN_REQ_EXPIRED    16
+ *   HEIDEZIRKEL_T_NO_CHANNEL  1         3,000 ms        HEIDEZIRKEL_EVENT_NO_CHANNEL_EXPIRED  17
+ *
+ * At most one of them runs in a fit context.
  */
 #ifndef HEIDEZIRKEL_H
 #define HEIDEZIRKEL_H
 #include <stddef.h>
 #include <stdint.h>
+#ifdef __cplusplus
+extern "C" {
+#endif
 
-/* The answers. */
+/* ---- The answers ------------------------------------------------------------------------------------------------------------------- */
+
 enum {
-    HEIDEZIRKEL_TAKEN = 0,            /* taken, as the step table says */
-    HEIDEZIRKEL_IGNORED = 1,          /* message ignored */
-    HEIDEZIRKEL_REPORTED = 2,         /* message reported: STATUS written, context unchanged */
-    HEIDEZIRKEL_NO_STEP = 3,          /* the event has no step in this state */
-    HEIDEZIRKEL_OUT_OF_RANGE = 4,     /* an argument is outside its range */
-    HEIDEZIRKEL_SHORT_BUFFER = 5,     /* reply buffer under 255 octets */
-    HEIDEZIRKEL_LONG_MESSAGE = 6,     /* message over 251 octets */
-    HEIDEZIRKEL_NO_CONTEXT = 7,       /* the context is not fit, or no context at all */
-    HEIDEZIRKEL_UNREADABLE_LOG = 8,   /* unreadable log, with entry number */
-    HEIDEZIRKEL_UNEXPLAINED = 9,      /* unexplained entry, with its number */
-    HEIDEZIRKEL_LONG_LOG = 10,        /* log over 65,536 bytes */
-    HEIDEZIRKEL_NO_ROOM = 11,         /* no room for the entry in the log */
-    HEIDEZIRKEL_SETTINGS_REFUSED = 12,/* settings refused, with line number */
-    HEIDEZIRKEL_UNREADABLE = 13       /* message unreadable, with fault number */
+    HEIDEZIRKEL_TAKEN = 0,             /* taken, as the step table says */
+    HEIDEZIRKEL_IGNORED = 1,           /* message ignored: it was not for this call, or nothing may be sent about it */
+    HEIDEZIRKEL_REPORTED = 2,          /* message reported: the reply is a STATUS that says why; the context is unchanged */
+    HEIDEZIRKEL_NO_STEP = 3,           /* the event has no step in this state */
+    HEIDEZIRKEL_OUT_OF_RANGE = 4,      /* an argument is outside its range */
+    HEIDEZIRKEL_SHORT_BUFFER = 5,      /* the buffer for a message is under 255 octets */
+    HEIDEZIRKEL_LONG_MESSAGE = 6,      /* the received message is over 251 octets */
+    HEIDEZIRKEL_NO_CONTEXT = 7,        /* the context is not fit, or no context at all: clear it */
+    HEIDEZIRKEL_UNREADABLE_LOG = 8,    /* the log can't be read, with the entry's number */
+    HEIDEZIRKEL_UNEXPLAINED = 9,       /* up to an entry no joining timer explains the log, with the entry's number */
+    HEIDEZIRKEL_LONG_LOG = 10,         /* the log is over 65,536 bytes, or would be */
+    HEIDEZIRKEL_NO_ROOM = 11,          /* no room for the entry in the log's buffer */
+    HEIDEZIRKEL_SETTINGS_REFUSED = 12, /* the settings file is refused, with the line's number */
+    HEIDEZIRKEL_UNREADABLE = 13        /* the message can't be read, with the fault's number */
 };
 
 #define HEIDEZIRKEL_CONTEXT_OCTETS 16
 #define HEIDEZIRKEL_SETTINGS_OCTETS 13
-#define HEIDEZIRKEL_REPLY_OCTETS 255
-#define HEIDEZIRKEL_LOG_OCTETS 65536
+#define HEIDEZIRKEL_REPLY_OCTETS 255   /* the shortest buffer that may be lent for a reply or for a message to be written */
+#define HEIDEZIRKEL_MESSAGE_OCTETS 251 /* the longest message, received or sent */
+#define HEIDEZIRKEL_LOG_OCTETS 65536   /* the longest log */
 
-/* A context, 16 octets:
- *   0      state: 0 U0, 1 U0.p, 2 U1, 3 U2, 4 U3, 5 U4, 6 U5, 7 U6
- *   1      parameters: 8 ORIG + 4 COMM + 2 D-ATT + 1 U-ATT
- *   2      timers that run: 8 T_MM-est + 4 T_term + 2 T_conn req + 1 T_no channel
- *   3      transaction value
- *   4..7   call reference
- *   8..15  zero, kept for later
- * Any other octets are no context. All 16 octets zero is the cleared context. */
-uint32_t heidezirkel_clear(uint8_t context[16]);  /* 0, and the cleared context */
+/* ---- The context ------------------------------------------------------------------------------------------------------------------- */
 
-/* Settings, 13 octets: 0 ciphering key number, 1..3 classmark, 4 length of the own identity, 5..12 the identity and zeros behind it.
- * All zero is refused by every step and every judgement with 4. */
+/* What the radio knows of its call, 16 octets that the host keeps and lends:
+ *
+ *   octet    what it is
+ *   0        state, HEIDEZIRKEL_U0 to HEIDEZIRKEL_U6
+ *   1        parameters that are true, added up: 8 ORIG, 4 COMM, 2 D-ATT, 1 U-ATT
+ *   2        timers that run, added up: 8 T_MM-est, 4 T_term, 2 T_conn req, 1 T_no channel
+ *   3        transaction value, 0 to 6
+ *   4 to 7   call reference, as it came
+ *   8 to 15  zero, kept for later
+ *
+ * Read it as you like; only heidezirkel_clear and heidezirkel_step should write it. Octets that no call can lead to are refused with 7 (state 8,
+ * parameters 16, an octet of 8 to 15 that is not zero, a timer that can't run in the state). All 16 octets zero is the cleared context. */
+enum { /* octet 0 */
+    HEIDEZIRKEL_U0 = 0,   /* NULL: no call */
+    HEIDEZIRKEL_U0_P = 1, /* MM CONNECTION PENDING */
+    HEIDEZIRKEL_U1 = 2,   /* BROADCAST CALL INITIATED */
+    HEIDEZIRKEL_U2 = 3,   /* BROADCAST CALL ACTIVE: this radio speaks */
+    HEIDEZIRKEL_U3 = 4,   /* BROADCAST CALL PRESENT: a call is notified, and not joined yet */
+    HEIDEZIRKEL_U4 = 5,   /* BROADCAST CALL CONNECTION REQUESTED: joining */
+    HEIDEZIRKEL_U5 = 6,   /* TERMINATION REQUESTED */
+    HEIDEZIRKEL_U6 = 7    /* RECEIVE MODE ACTIVE: this radio listens */
+};
+enum { /* octet 1 */
+    HEIDEZIRKEL_ORIG = 8,  /* this radio is the originator */
+    HEIDEZIRKEL_COMM = 4,  /* it may send messages to the network */
+    HEIDEZIRKEL_D_ATT = 2, /* attach the user connection in the downlink: let the crew hear */
+    HEIDEZIRKEL_U_ATT = 1  /* attach it in the uplink: let the crew speak */
+};
+enum { /* octet 2 */
+    HEIDEZIRKEL_T_MM_EST = 8,
+    HEIDEZIRKEL_T_TERM = 4,
+    HEIDEZIRKEL_T_CONN_REQ = 2,
+    HEIDEZIRKEL_T_NO_CHANNEL = 1
+};
+
+/* Clears the context, whatever it was. Answers 0. */
+uint32_t heidezirkel_clear(uint8_t context[16]);
+
+/* ---- The settings ------------------------------------------------------------------------------------------------------------------ */
+
+/* What a radio knows of itself, 13 octets that the host keeps and lends:
+ *
+ *   octet    what it is
+ *   0        ciphering key number, 0 to 7
+ *   1 to 3   mobile station classmark
+ *   4        how many octets the own identity has, 1 to 8
+ *   5 to 12  the own identity; what stands behind it has no effect (heidezirkel_read_settings writes zeros there)
+ *
+ * A key number over 7 and an identity of 0 or over 8 octets are refused by every step and every judgement with 4. So are 13 zeros: a host that let its
+ * settings begin as zeros and forgot to look at the answer below runs no call on a default. */
 struct heidezirkel_settings {
     uint32_t answer;     /* 0 or 12 */
-    uint32_t fault;      /* why a line is refused, 1 to 11; 0 where none is */
-    size_t line;         /* the line that is refused, counted from 1; 0 where none is */
-    uint32_t joining_ms; /* T_conn req in milliseconds; 0 where refused */
+    uint32_t fault;      /* of 12: why the line is refused, one of the numbers below; else 0 */
+    size_t line;         /* of 12: the line that is refused, counted from 1; where a line is missing, the count of lines plus 1; else 0 */
+    uint32_t joining_ms; /* of 0: the length of T_conn req, 10,000 to 30,000 ms; else 0 */
 };
+enum { /* fault */
+    HEIDEZIRKEL_LINE_NO_LINE_FEED = 1,
+    HEIDEZIRKEL_LINE_UNKNOWN_NAME = 2,
+    HEIDEZIRKEL_LINE_BAD_KEY = 3,
+    HEIDEZIRKEL_LINE_BAD_CLASSMARK = 4,
+    HEIDEZIRKEL_LINE_BAD_IDENTITY = 5,
+    HEIDEZIRKEL_LINE_BAD_JOINING = 6,
+    HEIDEZIRKEL_LINE_REPEATED_NAME = 7,
+    HEIDEZIRKEL_LINE_MISSING_KEY = 8,
+    HEIDEZIRKEL_LINE_MISSING_CLASSMARK = 9,
+    HEIDEZIRKEL_LINE_MISSING_IDENTITY = 10,
+    HEIDEZIRKEL_LINE_MISSING_JOINING = 11
+};
+
+/* Reads a settings file, lent whole as `length` bytes: four lines, in any order, each ended by a line feed, as in
+ *     cksn=3
+ *     classmark=3319a2
+ *     identity=f423a1b2
+ *     conn_req_ms=12000
+ * Answers 0 and writes the 13 octets, or 12 and leaves them as they were. No default stands in for a line. */
 struct heidezirkel_settings heidezirkel_read_settings(const uint8_t *file, size_t length, uint8_t settings[13]);
 
-/* An event and its data; what an event does not carry has no effect. */
+/* ---- The step ---------------------------------------------------------------------------------------------------------------------- */
+
+enum { /* what happens: the numbers of events */
+    HEIDEZIRKEL_EVENT_SET_UP = 1,             /* the user asks for a call, with an MM connection first; carries value and reference */
+    HEIDEZIRKEL_EVENT_IMMEDIATE_SET_UP = 2,   /* the user asks for a call at once; carries value and reference */
+    HEIDEZIRKEL_EVENT_JOIN = 3,               /* the user takes the call that was notified */
+    HEIDEZIRKEL_EVENT_TERMINATE = 4,          /* the user ends the call for everyone */
+    HEIDEZIRKEL_EVENT_RELEASE = 5,            /* the user leaves the call */
+    HEIDEZIRKEL_EVENT_MM_ESTABLISHED = 6,     /* lower layers: the MM connection is there */
+    HEIDEZIRKEL_EVENT_MM_FAILED = 7,          /* lower layers: the MM connection could not be established */
+    HEIDEZIRKEL_EVENT_RADIO_LINK_FAILURE = 8, /* lower layers */
+    HEIDEZIRKEL_EVENT_ABORT_OR_RELEASE = 9,   /* lower layers: the network's abort or release was detected */
+    HEIDEZIRKEL_EVENT_NOTIFIED = 10,          /* lower layers: a broadcast call exists; carries value and reference */
+    HEIDEZIRKEL_EVENT_GROUP_RECEIVE = 11,     /* lower layers: group receive mode is entered */
+    HEIDEZIRKEL_EVENT_NO_CHANNEL = 12,        /* lower layers: no channel */
+    HEIDEZIRKEL_EVENT_CHANNEL_AVAILABLE = 13, /* lower layers: a channel is available */
+    HEIDEZIRKEL_EVENT_MM_EST_EXPIRED = 14,    /* the host's clock: see TIMERS above */
+    HEIDEZIRKEL_EVENT_TERM_EXPIRED = 15,
+    HEIDEZIRKEL_EVENT_CONN_REQ_EXPIRED = 16,
+    HEIDEZIRKEL_EVENT_NO_CHANNEL_EXPIRED = 17,
+    HEIDEZIRKEL_EVENT_RECEIVED = 18           /* lower layers: a message came; carries mode and octets */
+};
+enum { /* what the host is to do: the actions, added up */
+    HEIDEZIRKEL_DO_INFORM = 1,                /* inform higher layers: tell the user what happened */
+    HEIDEZIRKEL_DO_REQUEST_MM = 2,            /* request an MM connection */
+    HEIDEZIRKEL_DO_REQUEST_GROUP_RECEIVE = 4, /* request group receive mode */
+    HEIDEZIRKEL_DO_ABORT = 8,                 /* ask lower layers to abort the call */
+    HEIDEZIRKEL_DO_RELEASE = 16,              /* ask lower layers to release the call */
+    HEIDEZIRKEL_DO_TELL_MM_EXISTS = 32        /* tell lower layers that the MM connection exists implicitly */
+};
+
+/* An event and its data. What an event does not carry has no effect and may be anything; zero is a good habit. */
 struct heidezirkel_event {
     uint32_t number;      /* 1 to 18 */
-    uint8_t value;        /* of 1, 2, 10: transaction value 0 to 6 */
-    uint8_t mode;         /* of 18: 0 acknowledged, 1 not */
-    uint8_t reference[4]; /* of 1, 2, 10: call reference */
+    uint8_t value;        /* of 1, 2 and 10: transaction value, 0 to 6 */
+    uint8_t mode;         /* of 18: 0 received in acknowledged mode, 1 in unacknowledged mode */
+    uint8_t reference[4]; /* of 1, 2 and 10: call reference */
 };
 struct heidezirkel_step {
-    uint32_t answer;
-    uint32_t actions;     /* 1 inform higher layers, 2 request MM connection, 4 request group receive mode, 8 abort, 16 release, 32 MM connection exists implicitly */
-    size_t reply_length;  /* octets of the reply, at the start of the reply buffer; 0: nothing to send */
+    uint32_t answer;     /* 0 to 7 */
+    uint32_t actions;    /* of 0: the actions, added up; else 0 */
+    size_t reply_length; /* of 0 and 2: how many octets at the start of the reply buffer are to be sent; else, and where nothing is to be sent, 0 */
 };
+
+/* Takes one step: the event happens to the radio whose call is `context`.
+ * `message` is the received message, for event 18; for any other event it has no effect (lend any pointer, and length 0).
+ * `reply` has room for at least 255 octets, always. Only the first reply_length octets of it are changed.
+ * Tested in this order: 7 the context; 5 the reply buffer; 6 the message's length, for event 18; 4 event number, mode, value, key number, own identity.
+ * Then the step: 0 with the context after it, or 1, 2 or 3 with the context as it was. */
 struct heidezirkel_step heidezirkel_step(uint8_t context[16], const uint8_t settings[13], struct heidezirkel_event event,
     const uint8_t *message, size_t message_length, uint8_t *reply, size_t reply_room);
 
-/* Messages. A run (cause, identity) is a place and a length in the octets read, or in the source lent for writing. What a kind does not carry
- * is zero when read and has no effect when written. */
+/* ---- Messages ---------------------------------------------------------------------------------------------------------------------- */
+
+/* heidezirkel_step reads and writes messages itself: a host needs what stands here only to show messages to people or to make some for a test. */
+enum { /* message types, table 9.1 of the standard with bit 7 zero */
+    HEIDEZIRKEL_TYPE_IMMEDIATE_SETUP = 0x31,     /* radio to network */
+    HEIDEZIRKEL_TYPE_SETUP = 0x32,               /* radio to network */
+    HEIDEZIRKEL_TYPE_CONNECT = 0x33,             /* network to radio */
+    HEIDEZIRKEL_TYPE_TERMINATION = 0x34,         /* network to radio */
+    HEIDEZIRKEL_TYPE_TERMINATION_REQUEST = 0x35, /* radio to network */
+    HEIDEZIRKEL_TYPE_TERMINATION_REJECT = 0x36,  /* network to radio */
+    HEIDEZIRKEL_TYPE_STATUS = 0x38,              /* radio to network */
+    HEIDEZIRKEL_TYPE_GET_STATUS = 0x39,          /* network to radio */
+    HEIDEZIRKEL_TYPE_SET_PARAMETER = 0x3a        /* network to radio */
+};
+
+/* A message taken apart. A run of octets (identity, cause) is a place and a length: in the octets that were read, or in the source that is lent for
+ * writing. What a type does not carry is zero when read and has no effect when written. */
 struct heidezirkel_message {
-    uint8_t type;           /* 0x31.. as table 9.1 has it, with bit 7 zero */
-    uint8_t flag;           /* transaction flag, 0 or 1 */
-    uint8_t value;          /* transaction value */
-    uint8_t key;            /* ciphering key number */
-    uint8_t classmark[3];
-    uint8_t reference[4];
-    uint8_t originator;
-    uint8_t has_state;      /* STATUS: 1 where the call state is there */
-    uint8_t state;
-    uint8_t has_attributes; /* STATUS: 1 where the state attributes are there */
-    uint8_t attributes;
-    size_t identity_start, identity_length; /* GET STATUS: length 0 is no identity */
-    size_t cause_start, cause_length;
+    uint8_t type;           /* 0x31 to 0x3a, as above */
+    uint8_t flag;           /* transaction flag, 0 or 1: bit 8 of the first octet */
+    uint8_t value;          /* transaction value: 0 to 7 when read, 0 to 6 to be written */
+    uint8_t key;            /* IMMEDIATE SETUP: ciphering key number, 0 to 7 */
+    uint8_t classmark[3];   /* IMMEDIATE SETUP */
+    uint8_t reference[4];   /* CONNECT, IMMEDIATE SETUP, SETUP, TERMINATION REQUEST: call reference */
+    uint8_t originator;     /* CONNECT: 1 where this radio is the originator, else 0 */
+    uint8_t has_state;      /* STATUS: 1 where the call state is there, else 0 */
+    uint8_t state;          /* STATUS: call state as table 9.3 codes it, 0 to 15: U0 to U5 are 0 to 5, U0.p is 6, U6 is 7 */
+    uint8_t has_attributes; /* STATUS: 1 where the state attributes are there, else 0 */
+    uint8_t attributes;     /* SET PARAMETER, STATUS: 8 D-ATT, 4 U-ATT, 2 COMM, 1 ORIG (not the order of a context's octet 1) */
+    size_t identity_start, identity_length; /* IMMEDIATE SETUP: 1 to 8 octets; GET STATUS: 1 to 8, or length 0 for none */
+    size_t cause_start, cause_length;       /* STATUS, TERMINATION, TERMINATION REJECT: the cause's value, 1 to 247 octets */
 };
 struct heidezirkel_reading {
-    uint32_t answer;  /* 0, 6 or 13 */
-    uint32_t fault;   /* of 13: 1 to 4 */
-    struct heidezirkel_message message;  /* all zero where refused */
+    uint32_t answer;                    /* 0, 6 or 13 */
+    uint32_t fault;                     /* of 13: one of the numbers below; else 0 */
+    struct heidezirkel_message message; /* of 0; else all zero */
 };
+enum { /* fault: the first that is found, in this order */
+    HEIDEZIRKEL_FAULT_UNDER_TWO_OCTETS = 1,
+    HEIDEZIRKEL_FAULT_OTHER_DISCRIMINATOR = 2, /* the low four bits of octet 1 are not 1 */
+    HEIDEZIRKEL_FAULT_UNKNOWN_TYPE = 3,
+    HEIDEZIRKEL_FAULT_BAD_MANDATORY = 4        /* the mandatory part is wrong, or an unknown element asks to be known */
+};
+
+/* Reads a message, without a context. Answers 6 for over 251 octets, 0 and the message, or 13 and its first fault. */
 struct heidezirkel_reading heidezirkel_read_message(const uint8_t *octets, size_t length);
 
 struct heidezirkel_written {
-    uint32_t answer;  /* 0, 5 or 4 */
-    size_t length;    /* octets written at the start of the buffer; 0 where refused */
+    uint32_t answer; /* 0, 4 or 5 */
+    size_t length;   /* of 0: how many octets were written at the start of the buffer; else 0 */
 };
+
+/* Writes a message. Answers 5 for a buffer under 255 octets, then 4 for a field beyond its width or length, a run that does not lie within the source,
+ * transaction value 7 or a message over 251 octets, else 0. Only the first `length` octets of the buffer are changed. */
 struct heidezirkel_written heidezirkel_write_message(struct heidezirkel_message message, const uint8_t *source, size_t source_length,
     uint8_t *buffer, size_t room);
 
-/* Logs. `used` is how many bytes of the buffer are log already. */
+/* ---- Logs -------------------------------------------------------------------------------------------------------------------------- */
+
+/* A log is what a radio did, for others to judge: a version and then an entry a step. The host keeps its buffer of `room` octets and how many of them
+ * are `used`. A file of the used bytes is a log file. */
 struct heidezirkel_used {
-    uint32_t answer;  /* 0, 4, 10 or 11 */
-    size_t used;      /* bytes used now; as before where refused */
+    uint32_t answer; /* 0, 4, 10 or 11 */
+    size_t used;     /* how many bytes are used now; where refused, as many as before */
 };
+
+/* Begins a log: its version, one byte. Answers 0, or 11 where there is no room. Used is then 1, or 0 where refused. */
 struct heidezirkel_used heidezirkel_begin_log(uint8_t *log, size_t room);
+
+/* Adds an entry behind the bytes used: `delta_ms` after the entry before (of the first: after the log's beginning), up to 86,400,000; the event with
+ * its data and message as they were told to the step; what the step gave; the context after it; the first reply_length octets of the reply (lend
+ * step.reply_length). Of the step its answer and actions are recorded, of the context its state and parameters (octets 0 and 1); the rest of both has no
+ * effect. Only what is added is changed. With 0 used the version is written first.
+ * Tested in this order: 4 used over the room, or a number outside its range (an answer over 3 is no step, and not recorded); 10 the log would be over
+ * 65,536 bytes; 11 the room. The bytes already used are not looked at, nor whether the entry is true. */
 struct heidezirkel_used heidezirkel_record(uint8_t *log, size_t room, size_t used, uint32_t delta_ms, struct heidezirkel_event event,
-    const uint8_t *message, size_t message_length, struct heidezirkel_step step, const uint8_t context[16], const uint8_t *reply, size_t reply_length);
+    const uint8_t *message, size_t message_length, struct heidezirkel_step step, const uint8_t context[16], const uint8_t *reply,
+    size_t reply_length);
 
 struct heidezirkel_judgement {
-    uint32_t answer;    /* 0, 4, 8, 9 or 10 */
-    size_t entry;       /* of 0: how many entries; of 8 and 9: the entry that is refused, 0 the version */
-    uint32_t least_ms;  /* of 0: the least and the greatest joining timer that explain the log */
-    uint32_t greatest_ms;
+    uint32_t answer;      /* 0, 4, 8, 9 or 10 */
+    size_t entry;         /* of 0: how many entries there are; of 8 and 9: the entry at which the log is refused, counted from 1, 0 the version; else 0 */
+    uint32_t least_ms;    /* of 0: the least joining timer that explains the whole log; else 0 */
+    uint32_t greatest_ms; /* of 0: the greatest; all between explain it too; else 0 */
 };
+
+/* Judges a log of `length` bytes: whether it is what a radio with these settings does from a cleared context, with one joining timer from 10,000 to
+ * 30,000 ms. Answers 10 for over 65,536 bytes, then 4 for settings out of range, then takes the entries in order: 8 at the first that can't be read,
+ * 9 at the first up to which no joining timer explains the log, else 0. */
 struct heidezirkel_judgement heidezirkel_judge(const uint8_t settings[13], const uint8_t *log, size_t length);
 
 struct heidezirkel_number {
-    uint32_t answer;  /* 0, or 8 where there is no number at the place */
-    uint32_t value;
-    size_t next;      /* the place behind it */
+    uint32_t answer; /* 0, or 8 where no number stands there */
+    uint32_t value;  /* of 0; else 0 */
+    size_t next;     /* of 0: the place behind it; else 0 */
 };
+
+/* Reads the log's number at place `at`: seven bits a byte, low group first, the top bit set on all but the last byte, shortest form only, at most
+ * 5 bytes. */
 struct heidezirkel_number heidezirkel_read_number(const uint8_t *octets, size_t length, size_t at);
+
+#ifdef __cplusplus
+}
+#endif
 #endif

@@ -1,0 +1,22 @@
+/* The six commands of the line protocol (docs/PROBE.md), answered through the C library. Each takes the words behind its own and prints its answer without the
+ * line's end, or prints nothing and is false where the line is malformed. Each also looks at what a line can't show: see lent.h. */
+#ifndef COMMANDS_H
+#define COMMANDS_H
+#include "heidezirkel.h"
+#include "lent.h"
+#include "line.h"
+
+bool read_command(struct line *line);
+bool write_command(struct line *line);
+bool step_command(struct line *line);
+bool settings_command(struct line *line);
+bool judge_command(struct line *line);
+bool record_command(struct line *line);
+
+/* The words KEY CLASSMARK IDENTITY as 13 settings octets. */
+void settings_words(struct line *line, uint8_t settings[13]);
+/* The words EVENT EVALUE EREFERENCE MODE, value and mode up to `greatest`. */
+struct heidezirkel_event event_words(struct line *line, uint32_t greatest);
+/* A number as the octet that C has room for: one that is too large for it stays out of range. */
+uint8_t clipped(uint32_t number);
+#endif
