@@ -61,8 +61,56 @@ static void number(void) {
     expect("past the end", read.answer, HEIDEZIRKEL_UNREADABLE_LOG);
 }
 
+/* A log begun, the join in U0 recorded, and judged: document 01's whole log again. */
+static void record(void) {
+    static const uint8_t whole[] = {1, 0, 3, 3, 0, 0, 0, 0};
+    uint8_t log[9], context[16] = {0};
+    struct heidezirkel_event join = {3, 0, 0, {0, 0, 0, 0}};
+    struct heidezirkel_step refused = {HEIDEZIRKEL_NO_STEP, 0, 0};
+    struct heidezirkel_used used = heidezirkel_begin_log(log, 0);
+    memset(log, 0xEE, sizeof log);
+    expect("no room to begin", used.answer, HEIDEZIRKEL_NO_ROOM);
+    expect("none used", used.used, 0);
+    used = heidezirkel_begin_log(log, sizeof log);
+    expect("begun", used.answer, HEIDEZIRKEL_TAKEN);
+    expect("one used", used.used, 1);
+    used = heidezirkel_record(log, sizeof log, used.used, 0, join, log, 0, refused, context, log, 0);
+    expect("recorded", used.answer, HEIDEZIRKEL_TAKEN);
+    expect("eight used", used.used, 8);
+    expect("bytes", (unsigned long)memcmp(log, whole, 8), 0);
+    expect("byte behind", log[8], 0xEE);
+    used = heidezirkel_record(log, sizeof log, used.used, 0, join, whole, 0, refused, context, whole, 0);
+    expect("no room", used.answer, HEIDEZIRKEL_NO_ROOM);
+    expect("used as before", used.used, 8);
+    refused.answer = 4;
+    used = heidezirkel_record(log, sizeof log, used.used, 0, join, whole, 0, refused, context, whole, 0);
+    expect("answer 4 is not recorded", used.answer, HEIDEZIRKEL_OUT_OF_RANGE);
+}
+
+/* A fit file, and one whose second line is wrong. */
+static void settings(void) {
+    static const char fit[] = "cksn=5\nclassmark=0102a3\nidentity=12345678\nconn_req_ms=12000\n";
+    static const char unfit[] = "cksn=5\nclassmark=01023\n";
+    static const uint8_t octets[13] = {5, 1, 2, 0xA3, 4, 0x12, 0x34, 0x56, 0x78, 0, 0, 0, 0};
+    uint8_t read[13];
+    struct heidezirkel_settings told = heidezirkel_read_settings((const uint8_t *)fit, sizeof fit - 1, read);
+    expect("settings", told.answer, HEIDEZIRKEL_TAKEN);
+    expect("no fault", told.fault, 0);
+    expect("no line", told.line, 0);
+    expect("joining timer", told.joining_ms, 12000);
+    expect("octets", (unsigned long)memcmp(read, octets, 13), 0);
+    told = heidezirkel_read_settings((const uint8_t *)unfit, sizeof unfit - 1, read);
+    expect("refused", told.answer, HEIDEZIRKEL_SETTINGS_REFUSED);
+    expect("bad classmark", told.fault, 4);
+    expect("line 2", told.line, 2);
+    expect("no timer", told.joining_ms, 0);
+    expect("octets as before", (unsigned long)memcmp(read, octets, 13), 0);
+}
+
 int main(void) {
     step();
+    record();
+    settings();
     judge();
     number();
     return failed;

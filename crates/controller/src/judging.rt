@@ -1,6 +1,11 @@
 // The log judge, for C.
+ghost use mathlib.Core.Path.{_≡_};
 ghost use Prim.Native.Nat.{_+_, _≤_};
 ghost use lib.ListN.{length};
+ghost use Rattle.octets.specs.Run.{part};
+ghost use Rattle.verdict.specs.Judge.{judgeOf};
+ghost use Rattle.settings_octets.specs.Octets.{identityOf, ownOf};
+ghost use Rattle.controller.specs.Judging.{Timed, atEntry, judgementOf};
 use element::Run;
 use reply::Own;
 use verdict::Judged;
@@ -14,7 +19,9 @@ pub struct Judgement {
 }
 
 // An answer with an entry, and no timers.
-fn at_entry(answer: u32, entry: usize) -> Judgement {
+fn at_entry(answer: u32, entry: usize) -> Judgement
+    ensures { λ r. ⌜ r ≡ atEntry answer entry ⌝ }
+{
     Judgement {
         answer,
         entry,
@@ -23,14 +30,17 @@ fn at_entry(answer: u32, entry: usize) -> Judgement {
     }
 }
 
-// The verdict in numbers.
-fn numbers_of(judged: Judged) -> Judgement {
+// The verdict in C's numbers.
+fn judgement_of(judged: Judged) -> Judgement
+    requires { ⌜ Timed judged ⌝ }
+    ensures { λ r. ⌜ r ≡ judgementOf judged ⌝ }
+{
     match judged {
         Judged::Accepted(count, least, greatest) => Judgement {
             answer: 0,
             entry: count,
-            least: (least % 4294967296) as u32,
-            greatest: (greatest % 4294967296) as u32,
+            least: least as u32,
+            greatest: greatest as u32,
         },
         Judged::Unreadable(entry) => at_entry(8, entry),
         Judged::Unexplained(entry) => at_entry(9, entry),
@@ -42,6 +52,7 @@ fn numbers_of(judged: Judged) -> Judgement {
 // The judge, with the identity as a run of the settings' octets.
 fn judged(own: Own, settings: &[u8], run: Run, log: &[u8]) -> Judged
     requires { ⌜ run .start + run .count ≤ length (now settings) ⌝ }
+    ensures { λ r. ⌜ r ≡ judgeOf own (part (now (settings .entry)) (run .start) (run .count)) (now (log .entry)) ⌝ }
 {
     let start = run.start;
     let end = start + run.count;
@@ -50,8 +61,10 @@ fn judged(own: Own, settings: &[u8], run: Run, log: &[u8]) -> Judged
 
 // The log judge over thirteen octets of settings.
 #[no_mangle]
-pub extern "C" fn heidezirkel_judge(settings: &[u8; 13], log: &[u8]) -> Judgement {
+pub extern "C" fn heidezirkel_judge(settings: &[u8; 13], log: &[u8]) -> Judgement
+    ensures { λ r. ⌜ r ≡ judgementOf (judgeOf (ownOf (now (settings .entry))) (identityOf (now (settings .entry))) (now (log .entry))) ⌝ }
+{
     let own = settings_octets::own_of(settings);
     let run = settings_octets::identity_run(settings);
-    numbers_of(judged(own, settings, run, log))
+    judgement_of(judged(own, settings, run, log))
 }

@@ -1,0 +1,4 @@
+pub mod Files
+pub mod Records
+pub mod Steps
+pub mod Verdicts
