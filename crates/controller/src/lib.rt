@@ -1,2 +1,7 @@
-// Heidezirkel as a C library: what heidezirkel.h declares.
+// Heidezirkel for C: what include/heidezirkel.h declares, one module a topic. The crates below do the work; here it takes C's numbers.
+pub mod configuring;
+pub mod judging;
 pub mod messages;
+pub mod numbering;
+pub mod recording;
+pub mod stepping;

@@ -1,0 +1,154 @@
+-- Reading and writing a context's octets undo each other.
+use Prim.Native.Nat.{ℕ, _+_, _*_, _/_, _%_, _≤_, _<_}
+use mathlib.Core.Path.{_≡_, refl, sym, ap, subst, _∙_}
+use mathlib.Core.List.{List, [], _∷_}
+use mathlib.Core.Bool.{Bool, true, false, _&&_}
+use native.Mathlib.Omega.{arith}
+use lib.Dec.{eqb, leb}
+use lib.ListN.{length, getD}
+use borrow.Author.Tests.{eqb-true, eqb-false, leb-true}
+use Rattle.octets.proofs.Choice.{at-cond}
+use Rattle.codes.specs.declared.state.State.{State}
+use Rattle.codes.specs.declared.state.State.the-variants.{U0, U0p, U1, U2, U3, U4, U5, U6}
+use Rattle.codes.specs.declared.attributes.Parameters.{Parameters}
+use Rattle.context.specs.declared.Timers.{Timers}
+use Rattle.context.specs.declared.Context.{Context}
+use Rattle.context.specs.States.{numberOf}
+use Rattle.context.proofs.Whole.{and-left, and-right}
+use Rattle.context_octets.specs.declared.Numbered.{Numbered}
+use Rattle.context_octets.specs.declared.Numbered.the-variants.{Is as IsState, NoState}
+use Rattle.context_octets.specs.declared.Reading.{Reading}
+use Rattle.context_octets.specs.declared.Reading.the-variants.{Is, NoContext}
+use Rattle.context_octets.specs.Octets.{bit, contextOf, fourNumber, isKept, octetsOf, onState, parametersAt, stateAt, timersAt, withState}
+use Rattle.context_octets.proofs.Listed.{all-listed, listed}
+
+-- ---- what is written is read back
+
+state-back : (s : State) → stateAt (numberOf s) ≡ IsState s
+unfolding stateAt
+state-back = elim [ U0 ↦ refl | U0p ↦ refl | U1 ↦ refl | U2 ↦ refl | U3 ↦ refl | U4 ↦ refl | U5 ↦ refl | U6 ↦ refl ]
+
+-- Four bits, by their number.
+record Bits (n : ℕ) (a b c d : Bool) : Type 0 where
+  small : leb n 15 ≡ true
+  eight : eqb (n / 8 % 2) 1 ≡ a
+  four : eqb (n / 4 % 2) 1 ≡ b
+  two : eqb (n / 2 % 2) 1 ≡ c
+  one : eqb (n % 2) 1 ≡ d
+
+bits : (a b c d : Bool) → Bits (fourNumber a b c d) a b c d
+unfolding fourNumber
+bits true true true true = record { small = refl; eight = refl; four = refl; two = refl; one = refl }
+bits true true true false = record { small = refl; eight = refl; four = refl; two = refl; one = refl }
+bits true true false true = record { small = refl; eight = refl; four = refl; two = refl; one = refl }
+bits true true false false = record { small = refl; eight = refl; four = refl; two = refl; one = refl }
+bits true false true true = record { small = refl; eight = refl; four = refl; two = refl; one = refl }
+bits true false true false = record { small = refl; eight = refl; four = refl; two = refl; one = refl }
+bits true false false true = record { small = refl; eight = refl; four = refl; two = refl; one = refl }
+bits true false false false = record { small = refl; eight = refl; four = refl; two = refl; one = refl }
+bits false true true true = record { small = refl; eight = refl; four = refl; two = refl; one = refl }
+bits false true true false = record { small = refl; eight = refl; four = refl; two = refl; one = refl }
+bits false true false true = record { small = refl; eight = refl; four = refl; two = refl; one = refl }
+bits false true false false = record { small = refl; eight = refl; four = refl; two = refl; one = refl }
+bits false false true true = record { small = refl; eight = refl; four = refl; two = refl; one = refl }
+bits false false true false = record { small = refl; eight = refl; four = refl; two = refl; one = refl }
+bits false false false true = record { small = refl; eight = refl; four = refl; two = refl; one = refl }
+bits false false false false = record { small = refl; eight = refl; four = refl; two = refl; one = refl }
+
+pub read-written : (x : Context) → contextOf (octetsOf x) ≡ Is x
+unfolding contextOf isKept octetsOf withState parametersAt timersAt
+read-written x =
+    let p : Parameters = x .parameters in
+    let t : Timers = x .timers in
+    let b = bits (p .orig) (p .comm) (p .datt) (p .uatt) in
+    let c = bits (t .mmest) (t .term) (t .connreq) (t .nochannel) in
+    rw (b .small, c .small, state-back (x .state), b .eight, b .four, b .two, b .one, c .eight, c .four, c .two, c .one)
+
+-- ---- what is read is written back
+
+bit-of : (n : ℕ) → n < 2 → bit (eqb n 1) ≡ n
+bit-of n h = at-cond (λ (k : ℕ). k ≡ n) (eqb n 1) 1 0 (λ e. sym (eqb-true n 1 e)) (λ e. zero-left e)
+  where
+    zero-left : eqb n 1 ≡ false → 0 ≡ n
+    zero-left e = omega (arith, eqb-false n 1 e)
+
+four-back : (n : ℕ) → n ≤ 15 → fourNumber (eqb (n / 8 % 2) 1) (eqb (n / 4 % 2) 1) (eqb (n / 2 % 2) 1) (eqb (n % 2) 1) ≡ n
+unfolding fourNumber
+four-back n h =
+    let a : n / 8 % 2 ≡ n / 8 = omega arith in
+    let b : n / 4 ≡ 2 * (n / 8) + n / 4 % 2 = omega arith in
+    let c : n / 2 ≡ 2 * (n / 4) + n / 2 % 2 = omega arith in
+    let d : n ≡ 2 * (n / 2) + n % 2 = omega arith in
+    rw (bit-of (n / 8 % 2) (omega arith), bit-of (n / 4 % 2) (omega arith), bit-of (n / 2 % 2) (omega arith), bit-of (n % 2) (omega arith)) (omega arith)
+
+-- A state's number is the one that it was read from.
+abbrev From : ℕ → Numbered → Type 0
+From n (IsState s) = numberOf s ≡ n
+From n NoState = Unit
+
+state-from : (n : ℕ) → From n (stateAt n)
+unfolding stateAt
+state-from n =
+    at-cond (From n) (eqb n 0) _ _ (λ e. sym (eqb-true n 0 e)) λ e.
+    at-cond (From n) (eqb n 1) _ _ (λ e. sym (eqb-true n 1 e)) λ e.
+    at-cond (From n) (eqb n 2) _ _ (λ e. sym (eqb-true n 2 e)) λ e.
+    at-cond (From n) (eqb n 3) _ _ (λ e. sym (eqb-true n 3 e)) λ e.
+    at-cond (From n) (eqb n 4) _ _ (λ e. sym (eqb-true n 4 e)) λ e.
+    at-cond (From n) (eqb n 5) _ _ (λ e. sym (eqb-true n 5 e)) λ e.
+    at-cond (From n) (eqb n 6) _ _ (λ e. sym (eqb-true n 6 e)) λ e.
+    at-cond (From n) (eqb n 7) _ _ (λ e. sym (eqb-true n 7 e)) λ e. tt
+
+-- What kept octets are.
+record Kept (s : List ℕ) : Type 0 where
+  parameters : getD s 1 0 ≤ 15
+  timers : getD s 2 0 ≤ 15
+  zeros : listed 8 8 s ≡ 0 ∷ 0 ∷ 0 ∷ 0 ∷ 0 ∷ 0 ∷ 0 ∷ 0 ∷ []
+
+is-zero : (n : ℕ) (b : Bool) → (eqb n 0 && b) ≡ true → n ≡ 0
+is-zero n b e = eqb-true n 0 (and-left (eqb n 0) b e)
+
+kept : (s : List ℕ) → isKept s ≡ true → Kept s
+unfolding isKept
+kept s e =
+    let low : (leb (getD s 2 0) 15 && _) ≡ true = and-right (leb (getD s 1 0) 15) _ e in
+    let rest = and-right (leb (getD s 2 0) 15) _ low in
+    let a = and-left _ (eqb (getD s 12 0) 0 && (eqb (getD s 13 0) 0 && (eqb (getD s 14 0) 0 && eqb (getD s 15 0) 0))) rest in
+    let b = and-right (eqb (getD s 8 0) 0 && (eqb (getD s 9 0) 0 && (eqb (getD s 10 0) 0 && eqb (getD s 11 0) 0))) _ rest in
+    let a1 = and-right (eqb (getD s 8 0) 0) _ a in
+    let a2 = and-right (eqb (getD s 9 0) 0) _ a1 in
+    let b1 = and-right (eqb (getD s 12 0) 0) _ b in
+    let b2 = and-right (eqb (getD s 13 0) 0) _ b1 in
+    record {
+      parameters = leb-true (getD s 1 0) 15 (and-left (leb (getD s 1 0) 15) _ e);
+      timers = leb-true (getD s 2 0) 15 (and-left (leb (getD s 2 0) 15) _ low);
+      zeros = rw (
+        is-zero (getD s 8 0) _ a,
+        is-zero (getD s 9 0) _ a1,
+        is-zero (getD s 10 0) _ a2,
+        eqb-true (getD s 11 0) 0 (and-right (eqb (getD s 10 0) 0) _ a2),
+        is-zero (getD s 12 0) _ b,
+        is-zero (getD s 13 0) _ b1,
+        is-zero (getD s 14 0) _ b2,
+        eqb-true (getD s 15 0) 0 (and-right (eqb (getD s 14 0) 0) _ b2),
+      );
+    }
+
+-- The octets that a context was read from are written of it.
+abbrev pub Written : List ℕ → Reading → Type 0
+Written s (Is x) = octetsOf x ≡ s
+Written s NoContext = Unit
+
+state-written : (s : List ℕ) → length s ≡ 16 → Kept s → (t : Numbered) → From (getD s 0 0) t → Written s (onState s t)
+unfolding octetsOf withState parametersAt timersAt
+state-written s l k (IsState state) f =
+    rw (f, four-back (getD s 1 0) (k .parameters), four-back (getD s 2 0) (k .timers), ← k .zeros) (sym (all-listed 16 s l))
+state-written s l k NoState f = tt
+
+pub written-read : (s : List ℕ) → length s ≡ 16 → Written s (contextOf s)
+unfolding contextOf
+written-read s l =
+    at-cond (Written s) (isKept s) _ _ (λ e. state-written s l (kept s e) (stateAt (getD s 0 0)) (state-from (getD s 0 0))) (λ e. tt)
+
+-- The same of a reading that is known.
+pub written-back : (s : List ℕ) (x : Context) → length s ≡ 16 → contextOf s ≡ Is x → octetsOf x ≡ s
+written-back s x l e = subst (Written s) e (written-read s l)

@@ -1,0 +1,5 @@
+pub mod Back
+pub mod Bits
+pub mod Coincide
+pub mod Listed
+pub mod Ways

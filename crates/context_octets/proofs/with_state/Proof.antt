@@ -1,0 +1,21 @@
+-- `with_state` meets its contract: each octet is the definition's.
+use borrow.Author.Needs.{needs}
+use Rattle.context_octets.specs.Octets.{withState}
+use Rattle.context_octets.proofs.with_state.Statement.{statement}
+use Rattle.context_octets.proofs.with_state.Tie as tie
+
+pub with-state-spec : {M : Type 1} → statement M
+unfolding withState
+with-state-spec =
+    tie.close
+    (tie.spec
+    (λ c. search needs)
+    (λ c κs. search needs)
+    (λ c. search needs)
+    (λ c κs. search needs)
+    (λ c. search needs)
+    (λ c. search needs)
+    (λ c. search needs)
+    (λ c. search needs)
+    (λ c. search needs)
+    (λ c. rw (← c .before .before .before .before .before .before .before .parameters-at .ensures, ← c .before .before .before .before .before .timers-at .ensures)))

@@ -1,0 +1,89 @@
+-- The sixteen octets of a context: 0 state, 1 parameters, 2 timers that run, 3 transaction value, 4 to 7 call reference, 8 to 15 zero.
+use Prim.Native.Nat.{ℕ, _+_, _*_, _/_, _%_}
+use mathlib.Core.List.{List, [], _∷_}
+use mathlib.Core.Bool.{Bool, cond, _&&_}
+use lib.Dec.{eqb, leb}
+use lib.ListN.{getD}
+use Rattle.octets.specs.Rows.{rows}
+use Rattle.codes.specs.declared.state.State.{State}
+use Rattle.codes.specs.declared.state.State.the-variants.{U0, U0p, U1, U2, U3, U4, U5, U6}
+use Rattle.codes.specs.declared.attributes.Parameters.{Parameters}
+use Rattle.message.specs.declared.Reference.{Reference}
+use Rattle.context.specs.declared.Timers.{Timers}
+use Rattle.context.specs.declared.Context.{Context}
+use Rattle.context.specs.States.{numberOf}
+use Rattle.context_octets.specs.declared.Numbered.{Numbered}
+use Rattle.context_octets.specs.declared.Numbered.the-variants.{Is as IsState, NoState}
+use Rattle.context_octets.specs.declared.Reading.{Reading}
+use Rattle.context_octets.specs.declared.Reading.the-variants.{Is, NoContext}
+
+-- Document 01, "The log": state, 0 to 7 for U0, U0.p, U1, U2, U3, U4, U5, U6.
+abbrev pub numbered : List (ℕ × Numbered)
+numbered =
+    (0, IsState U0) ∷
+    (1, IsState U0p) ∷
+    (2, IsState U1) ∷
+    (3, IsState U2) ∷
+    (4, IsState U3) ∷
+    (5, IsState U4) ∷
+    (6, IsState U5) ∷
+    (7, IsState U6) ∷
+    []
+
+unfoldable pub stateAt : ℕ → Numbered
+stateAt number = rows number NoState numbered
+
+-- Four bits in a number: the first weighs 8, the last 1.
+abbrev pub bit : Bool → ℕ
+bit set = cond set 1 0
+
+unfoldable pub fourNumber : Bool → Bool → Bool → Bool → ℕ
+fourNumber eight four two one = 8 * bit eight + 4 * bit four + 2 * bit two + bit one
+
+-- 8 ORIG + 4 COMM + 2 D-ATT + 1 U-ATT.
+unfoldable pub parametersAt : ℕ → Parameters
+parametersAt n = record { orig = eqb (n / 8 % 2) 1; comm = eqb (n / 4 % 2) 1; datt = eqb (n / 2 % 2) 1; uatt = eqb (n % 2) 1 }
+
+-- 8 T_MM-est + 4 T_term + 2 T_conn req + 1 T_no channel.
+unfoldable pub timersAt : ℕ → Timers
+timersAt n = record { mmest = eqb (n / 8 % 2) 1; term = eqb (n / 4 % 2) 1; connreq = eqb (n / 2 % 2) 1; nochannel = eqb (n % 2) 1 }
+
+-- Parameters and timers are numbers below 16, and the last eight octets are zero.
+unfoldable pub isKept : List ℕ → Bool
+isKept s =
+    leb (getD s 1 0) 15 &&
+    (leb (getD s 2 0) 15 &&
+    ((eqb (getD s 8 0) 0 && (eqb (getD s 9 0) 0 && (eqb (getD s 10 0) 0 && eqb (getD s 11 0) 0))) &&
+    (eqb (getD s 12 0) 0 && (eqb (getD s 13 0) 0 && (eqb (getD s 14 0) 0 && eqb (getD s 15 0) 0)))))
+
+-- The context of a state, and of the octets behind the state's.
+unfoldable pub withState : List ℕ → State → Context
+withState s state = record {
+  state = state;
+  parameters = parametersAt (getD s 1 0);
+  timers = timersAt (getD s 2 0);
+  value = getD s 3 0;
+  reference = record { first = getD s 4 0; second = getD s 5 0; third = getD s 6 0; fourth = getD s 7 0 };
+}
+
+abbrev pub onState : List ℕ → Numbered → Reading
+onState s (IsState state) = Is (withState s state)
+onState s NoState = NoContext
+
+-- The context that sixteen octets are. Any other octets are no context.
+unfoldable pub contextOf : List ℕ → Reading
+contextOf s = cond (isKept s) (onState s (stateAt (getD s 0 0))) NoContext
+
+-- The sixteen octets of a context.
+unfoldable pub octetsOf : Context → List ℕ
+octetsOf x =
+    let p : Parameters = x .parameters in
+    let t : Timers = x .timers in
+    let r : Reference = x .reference in
+    numberOf (x .state) ∷
+    fourNumber (p .orig) (p .comm) (p .datt) (p .uatt) ∷
+    fourNumber (t .mmest) (t .term) (t .connreq) (t .nochannel) ∷
+    x .value ∷
+    r .first ∷ r .second ∷ r .third ∷ r .fourth ∷
+    0 ∷ 0 ∷ 0 ∷ 0 ∷ 0 ∷ 0 ∷ 0 ∷ 0 ∷
+    []

@@ -1,0 +1,142 @@
+// A context as the sixteen octets that a host in C keeps of it: read, where they are a context, and written.
+ghost use mathlib.Core.Path.{_≡_};
+ghost use Rattle.context_octets.specs.Octets.{contextOf, fourNumber, isKept, octetsOf, parametersAt, stateAt, timersAt, withState};
+use codes::attributes::Parameters;
+use codes::state::State;
+use context::Context;
+use context::Timers;
+use message::Reference;
+
+// What sixteen octets are.
+pub enum Reading {
+    Is(Context),
+    NoContext,
+}
+
+// The state of a number.
+pub enum Numbered {
+    Is(State),
+    NoState,
+}
+
+// The state of a number from 0 to 7.
+fn state_at(number: u8) -> Numbered
+    ensures { λ r. ⌜ r ≡ stateAt number ⌝ }
+{
+    match number {
+        0 => Numbered::Is(State::U0),
+        1 => Numbered::Is(State::U0p),
+        2 => Numbered::Is(State::U1),
+        3 => Numbered::Is(State::U2),
+        4 => Numbered::Is(State::U3),
+        5 => Numbered::Is(State::U4),
+        6 => Numbered::Is(State::U5),
+        7 => Numbered::Is(State::U6),
+        _ => Numbered::NoState,
+    }
+}
+
+// 8 ORIG + 4 COMM + 2 D-ATT + 1 U-ATT, taken apart.
+fn parameters_at(number: u8) -> Parameters
+    ensures { λ r. ⌜ r ≡ parametersAt number ⌝ }
+{
+    Parameters {
+        orig: number / 8 % 2 == 1,
+        comm: number / 4 % 2 == 1,
+        datt: number / 2 % 2 == 1,
+        uatt: number % 2 == 1,
+    }
+}
+
+// 8 T_MM-est + 4 T_term + 2 T_conn req + 1 T_no channel, taken apart.
+fn timers_at(number: u8) -> Timers
+    ensures { λ r. ⌜ r ≡ timersAt number ⌝ }
+{
+    Timers {
+        mmest: number / 8 % 2 == 1,
+        term: number / 4 % 2 == 1,
+        connreq: number / 2 % 2 == 1,
+        nochannel: number % 2 == 1,
+    }
+}
+
+// The number of four bits, the first weighing 8.
+fn four_number(eight: bool, four: bool, two: bool, one: bool) -> u8
+    ensures { λ r. ⌜ r ≡ fourNumber eight four two one ⌝ }
+{
+    8 * (eight as u8) + 4 * (four as u8) + 2 * (two as u8) + (one as u8)
+}
+
+// Whether parameters and timers are below 16, and the last eight octets zero.
+fn is_kept(octets: &[u8; 16]) -> bool
+    ensures { λ r. ⌜ r ≡ isKept (now (octets .entry)) ⌝ }
+{
+    let first = (octets[8] == 0) & ((octets[9] == 0) & ((octets[10] == 0) & (octets[11] == 0)));
+    let last = (octets[12] == 0) & ((octets[13] == 0) & ((octets[14] == 0) & (octets[15] == 0)));
+    (octets[1] <= 15) & ((octets[2] <= 15) & (first & last))
+}
+
+// The context of a state, and of the octets behind the state's.
+fn with_state(octets: &[u8; 16], state: State) -> Context
+    ensures { λ r. ⌜ r ≡ withState (now (octets .entry)) state ⌝ }
+{
+    let parameters = parameters_at(octets[1]);
+    let timers = timers_at(octets[2]);
+    let reference = Reference {
+        first: octets[4],
+        second: octets[5],
+        third: octets[6],
+        fourth: octets[7],
+    };
+    Context {
+        state,
+        parameters,
+        timers,
+        value: octets[3],
+        reference,
+    }
+}
+
+// The context that sixteen octets are, if they are one.
+pub fn read(octets: &[u8; 16]) -> Reading
+    ensures { λ r. ⌜ r ≡ contextOf (now (octets .entry)) ⌝ }
+{
+    if !is_kept(octets) {
+        return Reading::NoContext;
+    }
+    match state_at(octets[0]) {
+        Numbered::Is(state) => Reading::Is(with_state(octets, state)),
+        Numbered::NoState => Reading::NoContext,
+    }
+}
+
+// Writes a context's sixteen octets.
+pub fn write(context: Context, octets: &mut [u8; 16])
+    ensures { λ _. ⌜ now (octets .exit) ≡ octetsOf context ⌝ }
+{
+    let state = context.state;
+    let set = context.parameters;
+    let run = context.timers;
+    let call = context.reference;
+    let number = context::state_number(state) as u8;
+    let parameters = four_number(set.orig, set.comm, set.datt, set.uatt);
+    let timers = four_number(run.mmest, run.term, run.connreq, run.nochannel);
+    *octets = [
+        number,
+        parameters,
+        timers,
+        context.value,
+        call.first,
+        call.second,
+        call.third,
+        call.fourth,
+        0,
+        0,
+        0,
+        0,
+        0,
+        0,
+        0,
+        0,
+    ];
+}

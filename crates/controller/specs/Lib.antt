@@ -1,0 +1,5 @@
+pub mod Configuring
+pub mod Judging
+pub mod Numbering
+pub mod Recording
+pub mod Stepping

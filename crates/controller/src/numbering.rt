@@ -1,0 +1,31 @@
+// A log's number, for C.
+ghost use mathlib.Core.Path.{_≡_};
+ghost use Rattle.number.specs.Number.{numberAt};
+ghost use Rattle.controller.specs.Numbering.{numberShown};
+use number::Number;
+
+#[repr(C)]
+pub struct NumberRead {
+    pub answer: u32,
+    pub value: u32,
+    pub next: usize,
+}
+
+// The number at a place of a log: 0 with the number and the place behind it, or 8.
+#[no_mangle]
+pub extern "C" fn heidezirkel_read_number(octets: &[u8], at: usize) -> NumberRead
+    ensures { λ r. ⌜ r ≡ numberShown (numberAt (now (octets .entry)) at) ⌝ }
+{
+    match number::read_number(octets, at) {
+        Number::Value(value, next) => NumberRead {
+            answer: 0,
+            value,
+            next,
+        },
+        Number::Unreadable => NumberRead {
+            answer: 8,
+            value: 0,
+            next: 0,
+        },
+    }
+}

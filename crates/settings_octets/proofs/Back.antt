@@ -1,0 +1,34 @@
+-- What a step is told of settings that were written as octets is what they hold.
+use Prim.Native.Nat.{ℕ, _+_, _-_, min}
+use mathlib.Core.Path.{_≡_, refl, sym, ap, _∙_}
+use mathlib.Core.List.{List}
+use native.Mathlib.Omega.{arith}
+use lib.ListN.{length, take, getD, replicate, length-append, length-replicate}
+use borrow.Author.Tests.{le-ltb}
+use Rattle.settings.specs.declared.Settings.{Settings}
+use Rattle.settings.specs.Settings.{padded}
+use Rattle.settings.specs.Written.{InRange}
+use Rattle.context_octets.proofs.Listed.{all-listed}
+use Rattle.settings_octets.specs.Octets.{identityOf, lengthOctet, octetsOf, ownOf, runOf}
+
+-- Key number and classmark.
+pub own-back : (x : Settings)
+    → ownOf (octetsOf x) ≡ record { key = x .key; classmark = record { first = getD (x .classmark) 0 0; second = getD (x .classmark) 1 0; third = getD (x .classmark) 2 0 } }
+unfolding ownOf octetsOf
+own-back x = refl
+
+-- Eight octets.
+eight : (x : Settings) → InRange x → length (x .identity) ≡ 8
+eight x r =
+    let n : ℕ = x .count in
+    let t : List ℕ = take n (x .identity) in
+    let p : length (padded t) ≡ length t + (8 - length t) = length-append t (replicate (8 - length t) 0) ∙ ap (λ (k : ℕ). length t + k) (length-replicate (8 - length t) 0) in
+    let q : length (x .identity) ≡ length (padded t) = ap length (r .zeros) in
+    omega (arith, p, q, r .counted, r .most)
+
+-- The identity of settings in range, which those of a file that is taken are.
+pub identity-back : (x : Settings) → InRange x → identityOf (octetsOf x) ≡ take (x .count) (x .identity)
+unfolding octetsOf lengthOctet runOf
+identity-back x r =
+    let n : min (x .count) 255 ≡ x .count = omega (arith, r .most) in
+    rw (n, le-ltb 8 (x .count) (r .most)) (ap (take (x .count)) (sym (all-listed 8 (x .identity) (eight x r))))

@@ -1,0 +1,95 @@
+/* The greatest stack use of each function, by painting: each runs on a stack of its own, on many inputs, and the octets that it changed are counted.
+ * The caller's own frame is counted with it. Fails where one takes more than 2,048 octets. */
+#include <stdio.h>
+#include <stdlib.h>
+#include <string.h>
+#include <ucontext.h>
+#include "heidezirkel.h"
+
+enum { STACK = 65536, MOST = 2048, ROUNDS = 20000 };
+
+static unsigned char stack[STACK];
+static ucontext_t here, there;
+static uint8_t context[16], settings[13], octets[256], reply[255], log_bytes[4096];
+static size_t used;
+static struct heidezirkel_event event;
+static struct heidezirkel_step done;
+
+static unsigned random_below(unsigned n) { return (unsigned)(rand() % (int)n); }
+
+/* Inputs that mostly come through the first tests, so that the calls go deep. */
+static void fresh(void) {
+    size_t i;
+    for (i = 0; i < sizeof octets; i++) octets[i] = (uint8_t)random_below(256);
+    for (i = 0; i < 13; i++) settings[i] = (uint8_t)random_below(256);
+    settings[0] = (uint8_t)random_below(8);
+    settings[4] = (uint8_t)(1 + random_below(8));
+    event.number = random_below(3) ? 18 : 1 + random_below(18);
+    event.value = (uint8_t)random_below(7);
+    event.mode = (uint8_t)random_below(2);
+    octets[0] = (uint8_t)(1 + 16 * context[3] + 128 * (context[0] >= 1 && (context[0] <= 3 || context[0] == 6)));
+    octets[1] = (uint8_t)(0x31 + random_below(10));
+}
+
+static void call_nothing(void) {}
+static void call_step(void) { done = heidezirkel_step(context, settings, event, octets, random_below(252), reply, sizeof reply); }
+static void call_judge(void) { (void)heidezirkel_judge(settings, log_bytes, used); }
+static void call_record(void) {
+    used = heidezirkel_record(log_bytes, sizeof log_bytes, used, 0, event, octets, 251, done, context, reply, done.reply_length).used;
+}
+static void call_number(void) { (void)heidezirkel_read_number(octets, sizeof octets, random_below(256)); }
+static void call_begin(void) { used = heidezirkel_begin_log(log_bytes, sizeof log_bytes).used; }
+static void call_clear(void) { (void)heidezirkel_clear(context); }
+static void call_settings(void) {
+    static const char file[] = "cksn=5\nclassmark=0102a3\nidentity=12345678\nconn_req_ms=12000\n";
+    (void)heidezirkel_read_settings((const uint8_t *)file, sizeof file - 1 - random_below(3), settings);
+}
+
+/* How much of the painted stack a call changed. */
+static size_t painted(void (*call)(void)) {
+    size_t i = 0;
+    memset(stack, 0xA5, STACK);
+    getcontext(&there);
+    there.uc_stack.ss_sp = stack;
+    there.uc_stack.ss_size = STACK;
+    there.uc_link = &here;
+    makecontext(&there, call, 0);
+    swapcontext(&here, &there);
+    while (i < STACK && stack[i] == 0xA5) i++;
+    return STACK - i;
+}
+
+static int failed;
+
+static void report(const char *name, size_t most, size_t nothing) {
+    printf("%-14s %lu\n", name, (unsigned long)(most - nothing));
+    if (most - nothing > MOST) {
+        printf("FAILED: %s takes more than %d octets of stack\n", name, MOST);
+        failed = 1;
+    }
+}
+
+int main(void) {
+    static const struct {
+        const char *name;
+        void (*call)(void);
+    } calls[] = {{"step", call_step}, {"record", call_record}, {"judge", call_judge}, {"read_number", call_number}, {"read_settings", call_settings}, {"begin_log", call_begin}, {"clear", call_clear}};
+    size_t most[7] = {0}, nothing = painted(call_nothing), k, took;
+    long round;
+    call_begin();
+    for (round = 0; round < ROUNDS; round++) {
+        fresh();
+        for (k = 0; k < 5; k++) {
+            if (k == 2 && round % 64) continue; /* the log is judged while it grows */
+            took = painted(calls[k].call);
+            if (took > most[k]) most[k] = took;
+        }
+        if (round % 200 == 0)
+            for (k = 5; k < 7; k++) {
+                took = painted(calls[k].call);
+                if (took > most[k]) most[k] = took;
+            }
+    }
+    for (k = 0; k < 7; k++) report(calls[k].name, most[k], nothing);
+    return failed;
+}
