@@ -8,6 +8,7 @@ pub(crate) fn complain_usage() {
           heidezirkel settings FILE    says what a settings file sets, or where it is refused\n       \
           heidezirkel show LOG         says what a log holds, a line an entry\n       \
           heidezirkel judge SETTINGS LOG   says whether a log is what a radio does, and with which joining timer\n       \
+          heidezirkel timeline LOG FILE.svg   draws what a log holds as a picture\n       \
           heidezirkel probe            answers commands on standard input\n       \
           heidezirkel --help           says more; so does WORD --help\n",
     );
@@ -21,6 +22,7 @@ pub(crate) fn tell_help() {
           settings FILE   says what a settings file sets, or at which line it is refused and why\n  \
           show LOG        says what a log holds, a line an entry\n  \
           judge SETTINGS LOG   says whether a log is what a radio does, and with which joining timer\n  \
+          timeline LOG FILE.svg   draws what a log holds as a picture, which prints well in black and white\n  \
           probe           answers commands on standard input, a line each\n  \
           WORD --help     says more of a word\n\
           Exit status: 0 fine, 1 refused, 2 could not run.\n",
@@ -78,5 +80,15 @@ pub(crate) fn tell_judge_help() {
           and which timers do; or the first entry that can't be read or up to which none does, what it claims, and what the\n\
           step gives or which time rule it breaks. A settings file that is refused stops it at its line.\n\
           Exit status: 0 accepted, 1 refused, 2 a file can't be opened.\n",
+    );
+}
+
+pub(crate) fn tell_timeline_help() {
+    tell(
+        b"usage: heidezirkel timeline LOG FILE.svg\n\
+          Draws what a log holds into a new file, an SVG picture that browsers show and print: time along, states as bars,\n\
+          entries and messages as marks, the time within which the joining timer ends, and a list in words. It shows what\n\
+          the log claims and judges nothing. An entry that can't be read ends the picture and is told on standard error.\n\
+          Exit status: 0 every entry is read, 1 one is not, 2 a file can't be opened or made.\n",
     );
 }

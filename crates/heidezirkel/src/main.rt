@@ -19,6 +19,7 @@ use help::tell_message_help;
 use help::tell_probe_help;
 use help::tell_settings_help;
 use help::tell_show_help;
+use help::tell_timeline_help;
 use input::line_room;
 use input::octets_room;
 use input::stream;
@@ -34,6 +35,7 @@ use settings_words::tell_settings;
 use text::hex::read_hex;
 use text::words::part;
 use text::words::same;
+use timeline::tell_timeline;
 
 // Whether the argument at `place` is `--help`.
 fn asks_help(place: usize) -> bool {
@@ -197,6 +199,38 @@ fn judge_log(settings: Settings) -> u8 {
     tell_judged(settings, part(&log, 0, count))
 }
 
+// The log of `timeline`, and the file that the picture goes to.
+fn run_timeline() {
+    if asks_help(2) {
+        tell_timeline_help();
+        tell_verdict(0);
+        return;
+    }
+    if os::arg_count() != 4 {
+        complain(
+            b"heidezirkel timeline: takes two arguments, a log and a new file for the picture\n",
+        );
+        tell_verdict(2);
+        return;
+    }
+    let mut name = io::buffer();
+    let length = os::arg(2, &mut name);
+    let mut log = log_room();
+    let filed = read_file(b"timeline", part(&name, 0, length), &mut log);
+    if !filed.good {
+        tell_verdict(2);
+        return;
+    }
+    let count = filed.count;
+    let mut path = io::buffer();
+    let size = os::arg(3, &mut path);
+    tell_verdict(tell_timeline(
+        part(&log, 0, count),
+        part(&name, 0, length),
+        part(&path, 0, size),
+    ));
+}
+
 fn main() {
     let mut argument = io::buffer();
     let count = os::arg(1, &mut argument);
@@ -219,6 +253,10 @@ fn main() {
     }
     if same(word, b"show") {
         run_show();
+        return;
+    }
+    if same(word, b"timeline") {
+        run_timeline();
         return;
     }
     if same(word, b"--help") {
