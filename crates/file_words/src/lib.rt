@@ -1,4 +1,4 @@
-// The words that work on files: settings, show, judge, record, pcap. Each answers its verdict: 0 fine, 1 refused, 2 could not run.
+// The words that work on files: settings, show, judge, record, pcap, timeline. Each answers its verdict: 0 fine, 1 refused, 2 could not run.
 ghost use mathlib.Core.Path.{_≡_};
 ghost use lib.ListN.{length};
 use capture_words::write_capture;
@@ -11,6 +11,7 @@ use settings::read_settings;
 use settings_words::tell_settings;
 use text::words::part;
 use text::words::same;
+use timeline::tell_timeline;
 
 // Whether the word is one of these, and its verdict.
 pub struct Ran {
@@ -34,6 +35,9 @@ pub fn run(word: &[u8]) -> Ran {
     }
     if same(word, b"pcap") {
         return ran(run_pcap());
+    }
+    if same(word, b"timeline") {
+        return ran(run_timeline());
     }
     Ran {
         known: false,
@@ -201,6 +205,31 @@ fn run_pcap() -> u8 {
     write_capture(
         part(&name, 0, length),
         part(&log, 0, count),
+        part(&path, 0, end),
+    )
+}
+
+fn run_timeline() -> u8 {
+    if !has_arguments(
+        2,
+        b"timeline",
+        b"two arguments, a log and the name of the picture to make",
+    ) {
+        return 2;
+    }
+    let mut name = io::buffer();
+    let length = os::arg(2, &mut name);
+    let mut log = log_room();
+    let filed = read_file(b"timeline", part(&name, 0, length), &mut log);
+    if !filed.good {
+        return 2;
+    }
+    let count = filed.count;
+    let mut path = io::buffer();
+    let end = os::arg(3, &mut path);
+    tell_timeline(
+        part(&log, 0, count),
+        part(&name, 0, length),
         part(&path, 0, end),
     )
 }

@@ -20,6 +20,7 @@ fn write_help(descriptor: i32) {
           show LOG                    says what a log holds, a line an entry\n  \
           record SETTINGS SCRIPT LOG  makes a log from a script of events\n  \
           pcap LOG FILE               makes a capture file of a log's messages, for Wireshark\n  \
+          timeline LOG FILE.svg       draws what a log holds as a picture, which prints well in black and white\n  \
           settings FILE               says what a settings file sets, or at which line it is refused and why\n  \
           message HEX..               takes a message apart in words\n  \
           probe                       answers commands on standard input, a line each\n  \

@@ -83,6 +83,16 @@ fn tell_record_help() {
     );
 }
 
+fn tell_timeline_help() {
+    tell(
+        b"usage: heidezirkel timeline LOG FILE.svg\n\
+          Draws what a log holds into a new file, an SVG picture that browsers show and print: time along, states as bars,\n\
+          entries and messages as marks, the time within which the joining timer ends, and a list in words. It shows what\n\
+          the log claims and judges nothing. An entry that can't be read ends the picture and is told on standard error.\n\
+          Exit status: 0 every entry is read, 1 one is not, 2 a file can't be opened or made.\n",
+    );
+}
+
 // Says the help of a word, and answers whether there is such a word.
 pub(crate) fn tell_help_of(word: &[u8]) -> bool {
     if same(word, b"judge") {
@@ -107,6 +117,10 @@ pub(crate) fn tell_help_of(word: &[u8]) -> bool {
     }
     if same(word, b"pcap") {
         tell_pcap_help();
+        return true;
+    }
+    if same(word, b"timeline") {
+        tell_timeline_help();
         return true;
     }
     if same(word, b"probe") {

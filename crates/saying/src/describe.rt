@@ -6,12 +6,14 @@ use crate::tell;
 use crate::tell_number;
 use crate::tell_octet;
 use crate::tell_place;
+use crate::write_text;
 use codes::attributes::parameters_of;
 use codes::cause::Cause;
 use codes::cause::cause_of;
 use codes::state::CallState;
 use codes::state::State;
 use codes::state::call_state_of;
+use libc::STDOUT_FILENO;
 use text::words::find;
 use text::words::part;
 
@@ -27,8 +29,8 @@ fn line_behind(text: &[u8], at: usize) -> usize
     text.len()
 }
 
-// Tells a line of a text, counted from 0.
-fn tell_line(text: &[u8], number: u8) {
+// Writes a line of a text, counted from 0.
+fn write_line(descriptor: i32, text: &[u8], number: u8) {
     let mut at = 0;
     let mut left = number;
     while 0 < left {
@@ -36,7 +38,11 @@ fn tell_line(text: &[u8], number: u8) {
         left -= 1;
     }
     let count = find(part(text, at, text.len() - at), b'\n');
-    tell(part(text, at, count));
+    write_text(descriptor, part(text, at, count));
+}
+
+fn tell_line(text: &[u8], number: u8) {
+    write_line(STDOUT_FILENO, text, number);
 }
 
 fn kind_line(kind: u8) -> u8 {
@@ -54,22 +60,40 @@ fn kind_line(kind: u8) -> u8 {
     }
 }
 
-// The name of a message type, bits 6 to 1, with its direction.
-pub fn tell_kind(kind: u8) {
+// The name of a message type, bits 6 to 1.
+pub fn write_kind(descriptor: i32, kind: u8) {
     let line = kind_line(kind);
-    tell_line(
-        b"IMMEDIATE SETUP, MS to network\n\
-          SETUP, MS to network\n\
-          CONNECT, network to MS\n\
-          TERMINATION, network to MS\n\
-          TERMINATION REQUEST, MS to network\n\
-          TERMINATION REJECT, network to MS\n\
-          STATUS, MS to network\n\
-          GET STATUS, network to MS\n\
-          SET PARAMETER, network to MS\n\
+    write_line(
+        descriptor,
+        b"IMMEDIATE SETUP\n\
+          SETUP\n\
+          CONNECT\n\
+          TERMINATION\n\
+          TERMINATION REQUEST\n\
+          TERMINATION REJECT\n\
+          STATUS\n\
+          GET STATUS\n\
+          SET PARAMETER\n\
           no type of table 9.1\n",
         line,
     );
+}
+
+// The same with its direction.
+pub fn tell_kind(kind: u8) {
+    write_kind(STDOUT_FILENO, kind);
+    match kind {
+        0x31 => tell(b", MS to network"),
+        0x32 => tell(b", MS to network"),
+        0x35 => tell(b", MS to network"),
+        0x38 => tell(b", MS to network"),
+        0x33 => tell(b", network to MS"),
+        0x34 => tell(b", network to MS"),
+        0x36 => tell(b", network to MS"),
+        0x39 => tell(b", network to MS"),
+        0x3a => tell(b", network to MS"),
+        _ => {}
+    }
 }
 
 fn cause_line(cause: Cause) -> u8 {

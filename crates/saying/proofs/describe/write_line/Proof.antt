@@ -1,18 +1,18 @@
--- `tell_line` is safe: each turn passes a line over, and stays within the text.
+-- `write_line` is safe: each turn passes a line over, and stays within the text.
 use Prim.Native.Nat.{_≤_}
 use borrow.Author.Needs.{needs}
 use lib.ListN.{length}
-use Rattle.saying.proofs.describe.tell_line.Statement.{statement}
-use Rattle.saying.proofs.describe.tell_line.Tie as tie
+use Rattle.saying.proofs.describe.write_line.Statement.{statement}
+use Rattle.saying.proofs.describe.write_line.Tie as tie
 
 abbrev Inv-loop : tie.InvT-loop
-Inv-loop text number at₀ left₀ at left = at ≤ length text
+Inv-loop descriptor text number at₀ left₀ at left = at ≤ length text
 
 abbrev μ-loop : tie.MeasureT-loop
-μ-loop text number at₀ left₀ at left = left
+μ-loop descriptor text number at₀ left₀ at left = left
 
-pub tell-line-spec : {M : Type 1} → statement M
-tell-line-spec =
+pub write-line-spec : {M : Type 1} → statement M
+write-line-spec =
     tie.close
     (tie.spec
     Inv-loop

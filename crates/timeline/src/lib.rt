@@ -1,0 +1,123 @@
+// A log as a picture: time along, the states as bars, entries and messages as marks, the window in which the joining timer ends, and a list in
+// words. It shows what the log claims and judges nothing.
+mod band;
+mod head;
+mod list;
+mod mark;
+mod place;
+mod segment;
+mod survey;
+
+use band::Extent;
+use band::draw_bands;
+use band::measure;
+use filing::close_file;
+use filing::create_file;
+use head::draw_head;
+use head::top;
+use libc::STDERR_FILENO;
+use libc::STDOUT_FILENO;
+use log_words::fault::write_fault;
+use log_words::fault::write_version_fault;
+use number::Number;
+use number::read_number;
+use place::first_place;
+use saying::complain;
+use saying::tell;
+use saying::write_count;
+use survey::Survey;
+use survey::survey_log;
+use survey::view_of;
+
+// The most bytes that a log has.
+const MOST: usize = 65536;
+
+// Draws a log, the file `name`, into the new file `path`, and answers the verdict.
+pub fn tell_timeline(log: &[u8], name: &[u8], path: &[u8]) -> u8 {
+    if MOST < log.len() {
+        complain(b"log over 65,536 bytes (answer 10): nothing of it is drawn\n");
+        return 1;
+    }
+    match read_number(log, 0) {
+        Number::Value(version, at) => {
+            if version == 1 {
+                return draw_log(log, at, name, path);
+            }
+            refuse_version(log)
+        }
+        Number::Unreadable => refuse_version(log),
+    }
+}
+
+// What has no version is no log, and no picture is made of it.
+fn refuse_version(log: &[u8]) -> u8 {
+    write_version_fault(STDERR_FILENO, log);
+    1
+}
+
+fn draw_log(log: &[u8], at: usize, name: &[u8], path: &[u8]) -> u8 {
+    let found = survey_log(log, at);
+    let descriptor = create_file(b"timeline", path);
+    if descriptor < 0 {
+        return 2;
+    }
+    let drawn = draw_picture(descriptor, log, at, name, found);
+    // What can't be written any more shows at the last write.
+    let whole = io::write_all(descriptor, b"</svg>\n");
+    if !close_file(b"timeline", path, descriptor, whole) {
+        return 2;
+    }
+    tell_drawn(path, drawn);
+    if found.broken {
+        complain_of_fault(log, found);
+        return 1;
+    }
+    0
+}
+
+// All of the picture but its end.
+fn draw_picture(descriptor: i32, log: &[u8], at: usize, name: &[u8], found: Survey) -> Extent {
+    let place = found.place;
+    let view = view_of(found);
+    let y = top(found.broken);
+    let reach = measure(log, view, y, first_place(at), place.number, found.broken);
+    draw_head(descriptor, log, file_name(name), found, reach);
+    draw_bands(descriptor, log, view, y, first_place(at), reach);
+    reach
+}
+
+// The part of a path behind its last slash.
+fn file_name(path: &[u8]) -> &[u8] {
+    let mut at = path.len();
+    while at > 0 {
+        if path[at - 1] == b'/' {
+            return &path[at..];
+        }
+        at -= 1;
+    }
+    path
+}
+
+fn tell_drawn(path: &[u8], drawn: Extent) {
+    tell(path);
+    tell(b": ");
+    write_count(
+        STDOUT_FILENO,
+        drawn.drawn,
+        b" entry drawn",
+        b" entries drawn",
+    );
+    if drawn.drawn < drawn.total {
+        let rest = std::num::wrapping_sub_usize(drawn.total, drawn.drawn);
+        tell(b", and ");
+        write_count(STDOUT_FILENO, rest, b" not", b" not");
+        tell(b": the picture would grow too long");
+    }
+    tell(b"\n");
+}
+
+fn complain_of_fault(log: &[u8], found: Survey) {
+    let place = found.place;
+    let number = std::num::wrapping_add_usize(place.number, 1);
+    write_fault(STDERR_FILENO, log, number, place.at, found.fault);
+}

@@ -1,0 +1,198 @@
+// The numbered list below a band: a line an entry, in words.
+use crate::mark::draw_number;
+use crate::place::MARGIN;
+use crate::place::Place;
+use crate::place::RIGHT;
+use crate::place::View;
+use crate::place::less;
+use crate::place::sum;
+use commands::fields::octet_at;
+use commands::read_command::fault_number;
+use drawing::begin_text;
+use drawing::end_text;
+use drawing::label;
+use drawing::line;
+use log::Claim;
+use log::Entry;
+use log::Run;
+use log_words::entry::write_actions;
+use log_words::entry::write_answer_name;
+use log_words::entry::write_clock;
+use log_words::entry::write_event_name;
+use log_words::entry::write_state_name;
+use message::Fault;
+use message::Reading;
+use saying::describe::write_kind;
+use saying::write_text;
+use text::words::part;
+
+// From a band's top to the list's head and to its first line.
+const HEAD: u64 = 248;
+
+const FIRST: u64 = 265;
+
+const LINE: u64 = 16;
+
+// Where the columns start.
+const TIME: u64 = 64;
+
+const EVENT: u64 = 152;
+
+const ANSWER: u64 = 392;
+
+const STATE: u64 = 452;
+
+const SENT: u64 = 522;
+
+const ASKED: u64 = 672;
+
+// So many lines below a place.
+pub(crate) fn below(y: u64, lines: u64) -> u64 {
+    if 100000 < lines {
+        return y;
+    }
+    sum(y, lines * LINE)
+}
+
+pub(crate) fn first_line(y: u64) -> u64 {
+    sum(y, FIRST)
+}
+
+pub(crate) fn draw_list_head(descriptor: i32, y: u64) {
+    let base = sum(y, HEAD);
+    label(descriptor, b"t", MARGIN, base, b"no.");
+    label(descriptor, b"t", TIME, base, b"time");
+    label(descriptor, b"t", EVENT, base, b"what happened");
+    label(descriptor, b"t", ANSWER, base, b"answer");
+    label(descriptor, b"t", STATE, base, b"state");
+    label(descriptor, b"t", SENT, base, b"message sent");
+    label(descriptor, b"t", ASKED, base, b"asked of the other layers");
+    line(
+        descriptor,
+        b"grid",
+        MARGIN,
+        sum(base, 4),
+        RIGHT,
+        sum(base, 4),
+    );
+}
+
+pub(crate) fn draw_row(
+    descriptor: i32,
+    log: &[u8],
+    view: View,
+    y: u64,
+    before: Place,
+    after: Place,
+    entry: Entry,
+) {
+    let claim = entry.claim;
+    let base = below(first_line(y), before.lines);
+    draw_number(
+        descriptor,
+        claim.answer,
+        42,
+        less(base, 11),
+        after.number,
+        after.time,
+    );
+    draw_happened(descriptor, log, base, after.time, entry);
+    draw_step(descriptor, log, base, before.state, claim);
+    begin_text(descriptor, b"a", ASKED, base);
+    write_actions(descriptor, first_actions(claim.actions));
+    if joins(before, after) {
+        write_joining(descriptor, view, after.start);
+    }
+    end_text(descriptor);
+    if 32 < claim.actions {
+        begin_text(descriptor, b"a", ASKED, sum(base, LINE));
+        write_actions(descriptor, 32);
+        end_text(descriptor);
+    }
+}
+
+// The sixth action has a line of its own where there are others.
+fn first_actions(actions: u8) -> u8 {
+    if actions == 32 {
+        return 32;
+    }
+    actions % 32
+}
+
+// Whether the joining timer was started here.
+fn joins(before: Place, after: Place) -> bool {
+    !before.running & after.running
+}
+
+fn write_joining(descriptor: i32, view: View, start: u64) {
+    write_text(descriptor, b"; the joining timer ends ");
+    write_clock(descriptor, sum(start, view.least));
+    if view.least < view.greatest {
+        write_text(descriptor, b" to ");
+        write_clock(descriptor, sum(start, view.greatest));
+    }
+}
+
+fn draw_happened(descriptor: i32, log: &[u8], base: u64, time: u64, entry: Entry) {
+    let carried = entry.carried;
+    let message = carried.message;
+    begin_text(descriptor, b"a", TIME, base);
+    write_clock(descriptor, time);
+    end_text(descriptor);
+    begin_text(descriptor, b"a", EVENT, base);
+    write_event_name(descriptor, entry.event);
+    if entry.event == 18 {
+        write_text(descriptor, b": ");
+        write_message(descriptor, log, message);
+    }
+    end_text(descriptor);
+}
+
+fn draw_step(descriptor: i32, log: &[u8], base: u64, before: u8, claim: Claim) {
+    let reply = claim.reply;
+    begin_text(descriptor, b"a", ANSWER, base);
+    write_answer_name(descriptor, claim.answer);
+    end_text(descriptor);
+    begin_text(descriptor, b"a", STATE, base);
+    write_states(descriptor, before, claim.state);
+    end_text(descriptor);
+    if 0 < reply.count {
+        begin_text(descriptor, b"a", SENT, base);
+        write_message(descriptor, log, reply);
+        end_text(descriptor);
+    }
+}
+
+fn write_states(descriptor: i32, before: u8, after: u8) {
+    write_state_name(descriptor, before);
+    if before != after {
+        write_text(descriptor, b" to ");
+        write_state_name(descriptor, after);
+    }
+}
+
+// The kind of a message that stands in the log.
+fn write_message(descriptor: i32, log: &[u8], run: Run) {
+    let start = run.start;
+    let count = run.count;
+    let octets = part(log, start, count);
+    match message::read(octets) {
+        Reading::TooLong => write_text(descriptor, b"too long"),
+        Reading::Unreadable(fault) => write_faulty(descriptor, octets, fault),
+        Reading::Is {
+            flag: _,
+            value: _,
+            message: _,
+        } => write_kind(descriptor, octet_at(octets, 1) % 64),
+    }
+}
+
+// A message whose kind is known but whose octets are at fault is told so; any other can't be read at all.
+fn write_faulty(descriptor: i32, octets: &[u8], fault: Fault) {
+    if fault_number(fault) < 4 {
+        write_text(descriptor, b"unreadable");
+        return;
+    }
+    write_text(descriptor, b"faulty ");
+    write_kind(descriptor, octet_at(octets, 1) % 64);
+}

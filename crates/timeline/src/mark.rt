@@ -1,0 +1,124 @@
+// An entry's mark: its number above the lanes, a line from there to its time, the way from state to state, and a sign for a message or a
+// timer's expiry.
+use crate::place::Place;
+use crate::place::less;
+use crate::place::sum;
+use crate::segment::lane;
+use drawing::attribute;
+use drawing::begin_rectangle;
+use drawing::finish;
+use drawing::line;
+use drawing::number;
+use drawing::shape;
+use log::Entry;
+
+// Filled: taken. Grey and square: reported to the network. Hollow: refused.
+pub(crate) fn begin_badge(descriptor: i32, answer: u8, x: u64, y: u64) {
+    match answer {
+        0 => begin_rectangle(descriptor, b"taken", x, y, 28, 14),
+        2 => begin_rectangle(descriptor, b"told", x, y, 28, 14),
+        _ => begin_rectangle(descriptor, b"hollow", x, y, 28, 14),
+    }
+    round(descriptor, answer, 7);
+}
+
+// A full dot has a white rim, so that it shows on a dark bar.
+fn begin_dot(descriptor: i32, answer: u8, x: u64, y: u64) {
+    match answer {
+        0 => begin_rectangle(descriptor, b"taken dot", x, y, 8, 8),
+        2 => begin_rectangle(descriptor, b"told", x, y, 8, 8),
+        _ => begin_rectangle(descriptor, b"hollow", x, y, 8, 8),
+    }
+    round(descriptor, answer, 4);
+}
+
+fn round(descriptor: i32, answer: u8, radius: u64) {
+    if answer != 2 {
+        attribute(descriptor, b" rx=\"", radius);
+    }
+}
+
+// A badge with an entry's number; its middle is `x` and its top `y`.
+pub(crate) fn draw_number(descriptor: i32, answer: u8, x: u64, y: u64, entry: usize, time: u64) {
+    begin_badge(descriptor, answer, less(x, 14), y);
+    attribute(descriptor, b" data-entry=\"", entry as u64);
+    attribute(descriptor, b" data-time=\"", time);
+    finish(descriptor);
+    if answer == 0 {
+        number(descriptor, b"n w", x, sum(y, 11), entry as u64);
+        return;
+    }
+    number(descriptor, b"n", x, sum(y, 11), entry as u64);
+}
+
+fn draw_dot(descriptor: i32, answer: u8, x: u64, y: u64) {
+    begin_dot(descriptor, answer, less(x, 4), less(y, 4));
+    finish(descriptor);
+}
+
+// From the number down to the entry's time, and on to its state; broken where it was not taken.
+fn draw_leader(descriptor: i32, answer: u8, y: u64, from: u64, x: u64, end: u64) {
+    let bend = less(lane(y, 0), 4);
+    if answer == 0 {
+        line(descriptor, b"lead", from, sum(y, 44), x, bend);
+        line(descriptor, b"lead", x, bend, x, end);
+        return;
+    }
+    line(descriptor, b"lead no", from, sum(y, 44), x, bend);
+    line(descriptor, b"lead no", x, bend, x, end);
+}
+
+// A full triangle that points down: a message came. An open one that points up: one was sent.
+fn draw_signs(descriptor: i32, y: u64, x: u64, event: u8, sent: bool) {
+    let received = event == 18;
+    if received & sent {
+        draw_received(descriptor, less(x, 7), y);
+        draw_sent(descriptor, sum(x, 7), y);
+        return;
+    }
+    if received {
+        draw_received(descriptor, x, y);
+    }
+    if sent {
+        draw_sent(descriptor, x, y);
+    }
+    if (14 <= event) & (event <= 17) {
+        draw_expiry(descriptor, less(x, 4), y);
+    }
+}
+
+pub(crate) fn draw_received(descriptor: i32, x: u64, y: u64) {
+    shape(descriptor, b"taken", x, sum(y, 28), b"l-5 -8h10z");
+}
+
+pub(crate) fn draw_sent(descriptor: i32, x: u64, y: u64) {
+    shape(descriptor, b"hollow", x, sum(y, 20), b"l-5 8h10z");
+}
+
+pub(crate) fn draw_expiry(descriptor: i32, x: u64, y: u64) {
+    shape(descriptor, b"cross", x, sum(y, 20), b"l8 8m0 -8l-8 8");
+}
+
+pub(crate) fn draw_mark(descriptor: i32, y: u64, before: Place, after: Place, entry: Entry) {
+    let claim = entry.claim;
+    let reply = claim.reply;
+    let answer = claim.answer;
+    let x = after.x / 1000;
+    let from = sum(lane(y, before.state), 9);
+    let to = sum(lane(y, after.state), 9);
+    draw_leader(descriptor, answer, y, after.label, x, to);
+    if before.state != after.state {
+        line(descriptor, b"go", x, from, x, to);
+    }
+    draw_dot(descriptor, answer, x, to);
+    let top = sum(y, 30);
+    draw_number(
+        descriptor,
+        answer,
+        after.label,
+        top,
+        after.number,
+        after.time,
+    );
+    draw_signs(descriptor, y, after.label, entry.event, 0 < reply.count);
+}

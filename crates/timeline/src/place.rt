@@ -1,0 +1,213 @@
+// Where the walk through a log stands: what the log claims there, and where that is in the picture.
+use log::Entry;
+use log::Found;
+use log::read_entry;
+
+// The picture is 297 mm wide, 4 units a millimetre. Time runs from LEFT to RIGHT, and its marks stay LEAD away from both.
+pub(crate) const MARGIN: u64 = 28;
+
+pub(crate) const LEFT: u64 = 240;
+
+pub(crate) const RIGHT: u64 = 1160;
+
+pub(crate) const LEAD: u64 = 16;
+
+// From the middle of an entry's number to the next one's, at least.
+const APART: u64 = 30;
+
+// Of a longer time without an entry only the start is drawn, and a strip of so many units stands for the rest.
+const LONGEST: u64 = 60000;
+
+const START: u64 = 5000;
+
+pub(crate) const STRIP: u64 = 56;
+
+// The longest joining timer.
+pub(crate) const MOST_JOINING: u64 = 30000;
+
+// How the picture is drawn: units a second, milliseconds from one mark of the time axis to the next, and the joining timer's bounds.
+pub(crate) struct View {
+    pub scale: u64,
+    pub step: u64,
+    pub least: u64,
+    pub greatest: u64,
+}
+
+pub(crate) struct Place {
+    // The byte behind the last entry, and that entry's number, time and state after.
+    pub at: usize,
+    pub number: usize,
+    pub time: u64,
+    pub state: u8,
+    // Whether a join was taken, the time of the last one, and whether its timer runs.
+    pub joined: bool,
+    pub start: u64,
+    pub running: bool,
+    // In thousandths of a unit, so that no rounding adds up; then the middle of the last entry's number, in units.
+    pub x: u64,
+    pub label: u64,
+    // The lines that the band's list has so far.
+    pub lines: u64,
+}
+
+// ---- sums that can't overflow, for numbers that only place things
+
+pub(crate) fn sum(one: u64, other: u64) -> u64 {
+    std::num::wrapping_add_u64(one, other)
+}
+
+// Nought where the second is the greater.
+pub(crate) fn less(one: u64, other: u64) -> u64 {
+    if one < other {
+        return 0;
+    }
+    one - other
+}
+
+pub(crate) fn greater(one: u64, other: u64) -> u64 {
+    if one < other {
+        return other;
+    }
+    one
+}
+
+pub(crate) fn smaller(one: u64, other: u64) -> u64 {
+    if one < other {
+        return one;
+    }
+    other
+}
+
+// Milliseconds, at most 1,000,000 of them, as thousandths of a unit.
+pub(crate) fn along(scale: u64, milliseconds: u64) -> u64 {
+    if 1000000 < milliseconds {
+        return 0;
+    }
+    match scale {
+        80 => milliseconds * 80,
+        40 => milliseconds * 40,
+        20 => milliseconds * 20,
+        _ => milliseconds * 8,
+    }
+}
+
+// ---- the walk
+
+pub(crate) fn first_place(at: usize) -> Place {
+    Place {
+        at,
+        number: 0,
+        time: 0,
+        state: 0,
+        joined: false,
+        start: 0,
+        running: false,
+        x: (LEFT + LEAD) * 1000,
+        label: 0,
+        lines: 0,
+    }
+}
+
+// The same place at the start of a new band.
+pub(crate) fn in_new_band(place: Place) -> Place {
+    Place {
+        at: place.at,
+        number: place.number,
+        time: place.time,
+        state: place.state,
+        joined: place.joined,
+        start: place.start,
+        running: place.running,
+        x: (LEFT + LEAD) * 1000,
+        label: 0,
+        lines: 0,
+    }
+}
+
+pub(crate) fn is_cut(delta: u64) -> bool {
+    LONGEST < delta
+}
+
+// How much is drawn of the time from a place to the next entry. A joining timer that may still run is drawn to its end.
+pub(crate) fn shown(place: Place, delta: u64) -> u64 {
+    if !is_cut(delta) {
+        return delta;
+    }
+    greater(START, joining_left(place))
+}
+
+// How long a joining timer may last from here on.
+pub(crate) fn joining_left(place: Place) -> u64 {
+    if !place.joined {
+        return 0;
+    }
+    less(sum(place.start, MOST_JOINING), place.time)
+}
+
+fn strip_of(delta: u64) -> u64 {
+    if is_cut(delta) {
+        return STRIP * 1000;
+    }
+    0
+}
+
+// Whether an entry claims a join that was taken.
+fn is_joining(before: u8, event: u8, answer: u8, after: u8) -> bool {
+    (event == 3) & (answer == 0) & (after == 5) & (before != 5)
+}
+
+// An entry that claims the long sixth action beside others has two lines.
+pub(crate) fn lines_of(actions: u8) -> u64 {
+    if 32 < actions {
+        return 2;
+    }
+    1
+}
+
+fn start_of(joins: bool, time: u64, before: u64) -> u64 {
+    if joins {
+        return time;
+    }
+    before
+}
+
+// The place behind an entry, which ends at byte `at`.
+pub(crate) fn onward(view: View, place: Place, entry: Entry, at: usize) -> Place {
+    let claim = entry.claim;
+    let delta = entry.delta as u64;
+    let time = sum(place.time, delta);
+    let drawn = along(view.scale, shown(place, delta));
+    let x = sum(place.x, sum(drawn, strip_of(delta)));
+    let joins = is_joining(place.state, entry.event, claim.answer, claim.state);
+    Place {
+        at,
+        number: std::num::wrapping_add_usize(place.number, 1),
+        time,
+        state: claim.state,
+        joined: joins | place.joined,
+        start: start_of(joins, time, place.start),
+        running: joins | (place.running & (claim.state == 5)),
+        x,
+        label: greater(x / 1000, sum(place.label, APART)),
+        lines: sum(place.lines, lines_of(claim.actions)),
+    }
+}
+
+// The place behind the next entry. Where there is none to be read, the walk stays, and counts on so that it ends.
+pub(crate) fn next_place(log: &[u8], view: View, place: Place) -> Place {
+    let Found::Read(entry, at) = read_entry(log, place.at) else {
+        return Place {
+            at: place.at,
+            number: std::num::wrapping_add_usize(place.number, 1),
+            time: place.time,
+            state: place.state,
+            joined: place.joined,
+            start: place.start,
+            running: place.running,
+            x: place.x,
+            label: place.label,
+            lines: place.lines,
+        };
+    };
+    onward(view, place, entry, at)
+}

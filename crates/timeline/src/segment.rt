@@ -1,0 +1,296 @@
+// The time from one entry to the next: the bar of the state, the marks of the time axis, the window in which the joining timer ends, and the
+// strip that stands for a long time without an entry.
+use crate::place::LEFT;
+use crate::place::MARGIN;
+use crate::place::Place;
+use crate::place::RIGHT;
+use crate::place::STRIP;
+use crate::place::View;
+use crate::place::along;
+use crate::place::greater;
+use crate::place::is_cut;
+use crate::place::less;
+use crate::place::shown;
+use crate::place::smaller;
+use crate::place::sum;
+use crate::survey::tail;
+use drawing::attribute;
+use drawing::begin_rectangle;
+use drawing::begin_text;
+use drawing::begin_upright_text;
+use drawing::end_text;
+use drawing::finish;
+use drawing::line;
+use drawing::rectangle;
+use drawing::shape;
+use log_words::entry::write_clock;
+use log_words::entry::write_seconds;
+use saying::write_long;
+use saying::write_text;
+
+// From a band's top to its lanes, and the height of a lane.
+const LANES: u64 = 64;
+
+const LANE: u64 = 18;
+
+// The top of a state's lane; that of 8 is where the time axis stands.
+pub(crate) fn lane(y: u64, state: u8) -> u64 {
+    sum(y, LANES + LANE * (state as u64))
+}
+
+// ---- the bar
+
+// Dark where a call is on, grey where one comes or goes, light where there is none.
+fn shade(descriptor: i32, state: u8, x: u64, y: u64, width: u64) {
+    match state {
+        0 => begin_rectangle(descriptor, b"idle", x, y, width, 12),
+        3 => begin_rectangle(descriptor, b"on", x, y, width, 12),
+        7 => begin_rectangle(descriptor, b"on", x, y, width, 12),
+        _ => begin_rectangle(descriptor, b"way", x, y, width, 12),
+    }
+}
+
+// A state that lasts no time still shows.
+fn draw_bar(descriptor: i32, y: u64, before: Place, after: Place) {
+    let x = before.x / 1000;
+    let width = greater(2, less(after.x / 1000, x));
+    let top = sum(lane(y, before.state), 3);
+    shade(descriptor, before.state, x, top, width);
+    attribute(descriptor, b" data-state=\"", before.state as u64);
+    attribute(descriptor, b" data-from=\"", before.time);
+    attribute(descriptor, b" data-to=\"", after.time);
+    finish(descriptor);
+}
+
+// ---- the time axis
+
+// The first round time that has not been marked yet.
+fn first_tick(step: u64, place: Place) -> u64 {
+    let from = if place.label == 0 {
+        place.time
+    } else {
+        sum(place.time, 1)
+    };
+    round_up(step, from)
+}
+
+fn round_up(step: u64, from: u64) -> u64 {
+    if step == 0 {
+        return from;
+    }
+    if from % step == 0 {
+        return from;
+    }
+    sum(from, less(step, from % step))
+}
+
+// From a place on for so many milliseconds.
+fn draw_ticks(descriptor: i32, view: View, y: u64, place: Place, time: u64) {
+    let end = sum(place.time, time);
+    let mut tick = first_tick(view.step, place);
+    let mut turns: u64 = 64;
+    while turns > 0 {
+        if end < tick {
+            return;
+        }
+        draw_tick(descriptor, view, y, place, tick);
+        tick = sum(tick, view.step);
+        turns -= 1;
+    }
+}
+
+fn draw_tick(descriptor: i32, view: View, y: u64, place: Place, tick: u64) {
+    let x = sum(place.x, along(view.scale, less(tick, place.time))) / 1000;
+    let axis = lane(y, 8);
+    line(descriptor, b"grid", x, lane(y, 0), x, axis);
+    line(descriptor, b"axis", x, axis, x, sum(axis, 5));
+    begin_text(descriptor, b"m", x, sum(axis, 16));
+    write_seconds(descriptor, tick);
+    end_text(descriptor);
+}
+
+// ---- the joining timer
+
+// The part of the window that lies within the drawn time. `room` is where the lane is free to.
+fn draw_window(descriptor: i32, view: View, y: u64, place: Place, time: u64, room: u64) {
+    let from = sum(place.start, view.least);
+    let to = sum(place.start, view.greatest);
+    let end = sum(place.time, time);
+    if !is_within(place, from, to, end) {
+        return;
+    }
+    let first = greater(from, place.time);
+    let last = smaller(to, end);
+    let x = sum(place.x, along(view.scale, less(first, place.time))) / 1000;
+    let width = greater(3, along(view.scale, less(last, first)) / 1000);
+    begin_rectangle(descriptor, b"window", x, sum(lane(y, 5), 2), width, 14);
+    attribute(descriptor, b" data-from=\"", first);
+    attribute(descriptor, b" data-to=\"", last);
+    finish(descriptor);
+    if to <= end {
+        draw_bounds(descriptor, view, y, sum(sum(x, width), 4), room);
+    }
+}
+
+// A window of one instant belongs to the time that ends there.
+fn is_within(place: Place, from: u64, to: u64, end: u64) -> bool {
+    let instant = (from == to) & (from <= end);
+    place.joined & (place.time < to) & ((from < end) | instant)
+}
+
+// `least to greatest ms`, where there is room for it.
+fn draw_bounds(descriptor: i32, view: View, y: u64, x: u64, room: u64) {
+    if room < sum(x, 108) {
+        return;
+    }
+    begin_text(descriptor, b"s", x, sum(lane(y, 5), 13));
+    write_bounds(descriptor, view.least, view.greatest);
+    end_text(descriptor);
+}
+
+pub(crate) fn write_bounds(descriptor: i32, least: u64, greatest: u64) {
+    write_long(descriptor, least);
+    if least < greatest {
+        write_text(descriptor, b" to ");
+        write_long(descriptor, greatest);
+    }
+    write_text(descriptor, b" ms");
+}
+
+// ---- a long time without an entry
+
+// The strip ends at `end`; a jagged line on both sides says that the axis is cut.
+fn draw_strip(descriptor: i32, y: u64, end: u64, delta: u64) {
+    let top = lane(y, 0);
+    let x = less(end, STRIP - 6);
+    let middle = sum(top, 72);
+    rectangle(descriptor, b"strip", x, less(top, 2), STRIP - 12, 148);
+    draw_edge(descriptor, x, top);
+    draw_edge(descriptor, less(end, 6), top);
+    begin_upright_text(descriptor, b"m", sum(x, 19), middle);
+    write_text(descriptor, b"no entry for");
+    end_text(descriptor);
+    begin_upright_text(descriptor, b"m", sum(x, 32), middle);
+    write_clock(descriptor, delta);
+    end_text(descriptor);
+}
+
+fn draw_edge(descriptor: i32, x: u64, top: u64) {
+    shape(
+        descriptor,
+        b"edge",
+        x,
+        top,
+        b"l3 5l-6 9l3 4l3 5l-6 9l3 4l3 5l-6 9l3 4l3 5l-6 9l3 4l3 5l-6 9l3 4l3 5l-6 9l3 4l3 5l-6 9l3 4l3 5l-6 9l3 4",
+    );
+}
+
+// ---- all of it
+
+pub(crate) fn draw_segment(
+    descriptor: i32,
+    view: View,
+    y: u64,
+    before: Place,
+    after: Place,
+    delta: u64,
+) {
+    let time = shown(before, delta);
+    let end = after.x / 1000;
+    draw_ticks(descriptor, view, y, before, time);
+    draw_bar(descriptor, y, before, after);
+    if !is_cut(delta) {
+        draw_window(descriptor, view, y, before, time, end);
+        return;
+    }
+    draw_window(descriptor, view, y, before, time, less(end, STRIP));
+    draw_strip(descriptor, y, end, delta);
+}
+
+// How many milliseconds so many thousandths of a unit are.
+fn across(scale: u64, width: u64) -> u64 {
+    match scale {
+        80 => width / 80,
+        40 => width / 40,
+        20 => width / 20,
+        _ => width / 8,
+    }
+}
+
+// Behind the last entry the state goes on, nobody knows how long.
+pub(crate) fn draw_tail(descriptor: i32, view: View, y: u64, place: Place) {
+    let room = across(view.scale, less(RIGHT * 1000, place.x));
+    let time = smaller(tail(place), room);
+    draw_ticks(descriptor, view, y, place, time);
+    draw_window(descriptor, view, y, place, time, RIGHT);
+    begin_rectangle(
+        descriptor,
+        b"open",
+        place.x / 1000,
+        sum(lane(y, place.state), 3),
+        15,
+        12,
+    );
+    attribute(descriptor, b" data-state=\"", place.state as u64);
+    finish(descriptor);
+}
+
+// ---- the lanes themselves
+
+pub(crate) fn draw_lanes(descriptor: i32, y: u64) {
+    draw_lane(descriptor, b"dim", y, 0, b"U0 idle", b"NULL");
+    draw_lane(
+        descriptor,
+        b"bright",
+        y,
+        1,
+        b"U0.p waiting",
+        b"MM CONNECTION PENDING",
+    );
+    draw_lane(descriptor, b"dim", y, 2, b"U1 calling", b"CALL INITIATED");
+    draw_lane(
+        descriptor,
+        b"bright",
+        y,
+        3,
+        b"U2 own call on",
+        b"CALL ACTIVE",
+    );
+    draw_lane(descriptor, b"dim", y, 4, b"U3 notified", b"CALL PRESENT");
+    draw_lane(
+        descriptor,
+        b"bright",
+        y,
+        5,
+        b"U4 joining",
+        b"CONNECTION REQUESTED",
+    );
+    draw_lane(
+        descriptor,
+        b"dim",
+        y,
+        6,
+        b"U5 ending",
+        b"TERMINATION REQUESTED",
+    );
+    draw_lane(
+        descriptor,
+        b"bright",
+        y,
+        7,
+        b"U6 receiving",
+        b"RECEIVE MODE ACTIVE",
+    );
+    line(descriptor, b"axis", LEFT, lane(y, 8), RIGHT, lane(y, 8));
+}
+
+fn draw_lane(descriptor: i32, class: &[u8], y: u64, state: u8, plain: &[u8], name: &[u8]) {
+    let top = lane(y, state);
+    rectangle(descriptor, class, MARGIN, top, RIGHT - MARGIN, LANE);
+    begin_text(descriptor, b"t", 32, sum(top, 13));
+    write_text(descriptor, plain);
+    write_text(descriptor, b" <tspan class=\"s\">");
+    write_text(descriptor, name);
+    write_text(descriptor, b"</tspan>");
+    end_text(descriptor);
+}
