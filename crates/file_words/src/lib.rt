@@ -22,22 +22,22 @@ pub struct Ran {
 // Runs the word.
 pub fn run(word: &[u8]) -> Ran {
     if same(word, b"judge") {
-        return ran(run_judge());
+        return with_verdict(run_judge());
     }
     if same(word, b"show") {
-        return ran(run_show());
+        return with_verdict(run_show());
     }
     if same(word, b"settings") {
-        return ran(run_settings());
+        return with_verdict(run_settings());
     }
     if same(word, b"record") {
-        return ran(run_record());
+        return with_verdict(run_record());
     }
     if same(word, b"pcap") {
-        return ran(run_pcap());
+        return with_verdict(run_pcap());
     }
     if same(word, b"timeline") {
-        return ran(run_timeline());
+        return with_verdict(run_timeline());
     }
     Ran {
         known: false,
@@ -45,7 +45,7 @@ pub fn run(word: &[u8]) -> Ran {
     }
 }
 
-fn ran(verdict: u8) -> Ran {
+fn with_verdict(verdict: u8) -> Ran {
     Ran {
         known: true,
         verdict,
