@@ -3,8 +3,10 @@ use Prim.Native.Nat.{ℕ}
 use mathlib.Core.Path.{_≡_}
 use Rattle.octets.proofs.Coincide.{coincide}
 use Rattle.context.specs.declared.Context.{Context}
+use Rattle.call.specs.declared.Due.{Due}
 use Rattle.call.specs.declared.Event.{Event}
 use Rattle.call.specs.declared.Stepped.{Stepped}
+use Rattle.call.specs.Due.{settled}
 use Rattle.call.specs.Step.{noStep, ignored, reportedWith, stepValue}
 
 pub refuse-coincides : (x : Context) (a b : Stepped) → a ≡ noStep x → b ≡ noStep x → a ≡ b
@@ -18,3 +20,6 @@ report-coincides x cause a b = coincide (reportedWith cause x) a b
 
 pub step-coincides : (x : Context) (event : Event) (a b : Stepped) → a ≡ stepValue x event → b ≡ stepValue x event → a ≡ b
 step-coincides x event a b = coincide (stepValue x event) a b
+
+pub settle-coincides : (x : Context) (due : Due) (a b : Stepped) → a ≡ settled x due → b ≡ settled x due → a ≡ b
+settle-coincides x due a b = coincide (settled x due) a b

@@ -1,5 +1,6 @@
 // The step of a call, by value: what an event is, and what the step table's row for it brings about.
 ghost use mathlib.Core.Path.{_≡_};
+ghost use Rattle.call.specs.Due.{settled};
 ghost use Rattle.call.specs.Events.{bare, carrying, heard, seenMessage, seenOf};
 ghost use Rattle.call.specs.Step.{withTimer, parametersAfter, valueAfter, referenceAfter, afterwards, noStep, ignored, reportedWith, statusTold, parametersSet, carriedOut, stepValue};
 use codes::attributes::Parameters;
@@ -351,4 +352,24 @@ pub fn step(context: Context, event: Event) -> Stepped
     let seen = seen_event(event);
     let decision = transitions::decide(context, seen.number, seen.code);
     carry_out(context, decision, seen)
+}
+
+// What is due where something happens: the step of an event, or what befalls a message or a number that comes to no step.
+pub enum Due {
+    Steps(Event),
+    Ignored,
+    Reported(u8),
+    Refused,
+}
+
+// What is due, done. All that happens comes through here, so that the step stands in one place of a program and is built into it.
+pub fn settle(context: Context, due: Due) -> Stepped
+    ensures { λ r. ⌜ r ≡ settled context due ⌝ }
+{
+    match due {
+        Due::Steps(event) => step(context, event),
+        Due::Ignored => ignore(context),
+        Due::Reported(cause) => report(context, cause),
+        Due::Refused => refuse(context),
+    }
 }

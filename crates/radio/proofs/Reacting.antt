@@ -28,15 +28,20 @@ use Rattle.message.specs.Reading.{readMessage}
 use Rattle.context.specs.declared.Context.{Context}
 use Rattle.context.specs.Fit.{fitOf}
 use Rattle.context.proofs.Fit.{fit-value}
+use Rattle.call.specs.declared.Due.{Due}
+use Rattle.call.specs.declared.Due.the-variants.{Steps, Refused}
 use Rattle.call.specs.declared.Event.{Event}
 use Rattle.call.specs.declared.Event.the-variants.{Received}
 use Rattle.call.specs.declared.Stepped.{Stepped as Taken}
+use Rattle.call.specs.Due.{settled}
 use Rattle.call.specs.Events.{seenMessage, seenOf}
 use Rattle.call.specs.Step.{ignored, noStep, reportedWith, stepValue}
 use Rattle.call.proofs.Kept.{StoresFit, step-fit, reported-fit}
 use Rattle.reply.specs.declared.Own.{Own}
 use Rattle.reply.specs.Reply.{replyOf, putOf}
 use Rattle.reply.proofs.Fits.{put-is-reply}
+use Rattle.received.specs.Due.{dueOf}
+use Rattle.received.proofs.Dues.{due-heard}
 use Rattle.received.specs.Received.{isNotOurs, typeCause, namesOther, disowns, understoodOf, onReading, heardOf}
 use Rattle.radio.specs.declared.Happened.{Happened}
 use Rattle.radio.specs.declared.Outcome.{Outcome}
@@ -46,19 +51,19 @@ use Rattle.radio.specs.declared.Told.the-variants.{Is, NoEvent}
 use Rattle.radio.specs.Step.{events, eventOf, onEvent, reactedTo, outOfRange, Reaction, refused, reacted, stepOf, refusalOf, shown}
 use Rattle.radio.proofs.Range.{InRange, in-range, value-most}
 
--- The three ways of `react`.
-module _ (identity : List ℕ) (x : Context) (h : Happened) (s : List ℕ) (r : Taken) where
-  pub by-message : h .number ≡ 18 → r ≡ heardOf identity x (h .mode) s → r ≡ reactedTo identity x h s
+-- The three ways of `due_to`.
+module _ (identity : List ℕ) (x : Context) (h : Happened) (s : List ℕ) (r : Due) where
+  pub by-message : h .number ≡ 18 → r ≡ dueOf identity x (h .mode) s → settled x r ≡ reactedTo identity x h s
   unfolding reactedTo
-  by-message e p = rw (eq-eqb (h .number) 18 e) p
+  by-message e p = rw (eq-eqb (h .number) 18 e) (ap (settled x) p ∙ due-heard identity x (h .mode) s)
 
-  pub by-event : (h .number ≡ 18 → ⊥) → (event : Event) → eventOf (h .number) (h .value) (h .reference) ≡ Is event → r ≡ stepValue x event → r ≡ reactedTo identity x h s
-  unfolding reactedTo onEvent
-  by-event n event e p = rw (ne-eqb (h .number) 18 n, e) p
+  pub by-event : (h .number ≡ 18 → ⊥) → (event : Event) → eventOf (h .number) (h .value) (h .reference) ≡ Is event → r ≡ Steps event → settled x r ≡ reactedTo identity x h s
+  unfolding reactedTo onEvent settled
+  by-event n event e p = rw (ne-eqb (h .number) 18 n, e, p)
 
-  pub by-none : (h .number ≡ 18 → ⊥) → eventOf (h .number) (h .value) (h .reference) ≡ NoEvent → r ≡ noStep x → r ≡ reactedTo identity x h s
-  unfolding reactedTo onEvent
-  by-none n e p = rw (ne-eqb (h .number) 18 n, e) p
+  pub by-none : (h .number ≡ 18 → ⊥) → eventOf (h .number) (h .value) (h .reference) ≡ NoEvent → r ≡ Refused → settled x r ≡ reactedTo identity x h s
+  unfolding reactedTo onEvent settled
+  by-none n e p = rw (ne-eqb (h .number) 18 n, e, p)
 
 -- A fit context stays fit: by a message,
 abbrev Fit : Taken → Type 0

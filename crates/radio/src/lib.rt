@@ -3,7 +3,9 @@
 ghost use mathlib.Core.Path.{_≡_};
 ghost use lib.ListN.{length};
 ghost use lib.Seq.{sets};
+ghost use Rattle.call.specs.Due.{settled};
 ghost use Rattle.radio.specs.Step.{eventOf, reactedTo, outOfRange, refusalOf, shown, stepOf};
+use call::Due;
 use call::Event;
 use context::Context;
 use message::Reference;
@@ -62,18 +64,26 @@ fn event_of(number: u32, value: u8, reference: Reference) -> Told
     }
 }
 
+// What is due where an event in range happens.
+fn due_to(context: Context, identity: &[u8], happened: Happened, octets: &[u8]) -> Due
+    ensures { λ r. ⌜ settled context r ≡ reactedTo (now (identity .entry)) context happened (now (octets .entry)) ⌝ }
+{
+    let reference = happened.reference;
+    if happened.number == 18 {
+        return received::listen(context, identity, happened.mode, octets);
+    }
+    match event_of(happened.number, happened.value, reference) {
+        Told::Is(event) => Due::Steps(event),
+        Told::NoEvent => Due::Refused,
+    }
+}
+
 // The step of an event that is in range.
 fn react(context: Context, identity: &[u8], happened: Happened, octets: &[u8]) -> call::Stepped
     ensures { λ r. ⌜ r ≡ reactedTo (now (identity .entry)) context happened (now (octets .entry)) ⌝ }
 {
-    let reference = happened.reference;
-    if happened.number == 18 {
-        return received::hear(context, identity, happened.mode, octets);
-    }
-    match event_of(happened.number, happened.value, reference) {
-        Told::Is(event) => call::step(context, event),
-        Told::NoEvent => call::refuse(context),
-    }
+    let due = due_to(context, identity, happened, octets);
+    call::settle(context, due)
 }
 
 // Whether something is outside its range.

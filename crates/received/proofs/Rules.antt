@@ -1,4 +1,4 @@
--- The rules as the code tests them: what each way of `names_other` and `hear` comes to.
+-- The rules as the code tests them: what each way of `names_other` and `listen` comes to.
 use Prim.Native.Nat.{ℕ, _+_, _≤_}
 use mathlib.Core.Path.{_≡_, refl, sym, subst, _∙_}
 use mathlib.Core.List.{List}
@@ -20,9 +20,10 @@ use Rattle.message.specs.Content.{runOctets}
 use Rattle.message.specs.Reading.{readMessage}
 use Rattle.context.specs.declared.Context.{Context}
 use Rattle.context.specs.States.{same}
-use Rattle.call.specs.declared.Stepped.{Stepped}
-use Rattle.call.specs.Step.{reportedWith}
-use Rattle.received.specs.Received.{isNotOurs, typeCause, sameOctets, namesOther, understoodOf, onReading, heardOf, Within}
+use Rattle.call.specs.declared.Due.{Due}
+use Rattle.call.specs.declared.Due.the-variants.{Reported}
+use Rattle.received.specs.Received.{isNotOurs, typeCause, sameOctets, namesOther, Within}
+use Rattle.received.specs.Due.{understoodDue, readingDue, dueOf}
 
 -- The identity of a GET STATUS.
 module _ (identity s : List ℕ) (m : Message) (named : Identity) (e : m ≡ GetStatus named) where
@@ -52,15 +53,15 @@ unfolding isNotOurs
 ours-two x s e = ltb-false _ _ (first-false (ltb (length s) 2) _ (either-false (same (x .state) U0) _ e))
 
 -- What is left after rules 1 and 2 goes by what reading gives.
-module _ (identity : List ℕ) (x : Context) (mode : ℕ) (s : List ℕ) (ours : isNotOurs x s ≡ false) (none : typeCause x (getD s 1 0) ≡ 0) (r : Stepped) where
-  pub heard-read : (flag : Bool) (value : ℕ) (m : Message) → readMessage s ≡ Is flag value m → r ≡ understoodOf identity x mode s m → r ≡ heardOf identity x mode s
-  unfolding heardOf onReading
-  heard-read flag value m e p = rw (ours, none, e) p
+module _ (identity : List ℕ) (x : Context) (mode : ℕ) (s : List ℕ) (ours : isNotOurs x s ≡ false) (none : typeCause x (getD s 1 0) ≡ 0) (r : Due) where
+  pub due-read : (flag : Bool) (value : ℕ) (m : Message) → readMessage s ≡ Is flag value m → r ≡ understoodDue identity mode s m → r ≡ dueOf identity x mode s
+  unfolding dueOf readingDue
+  due-read flag value m e p = rw (ours, none, e) p
 
-  pub heard-wrong : (fault : Fault) → readMessage s ≡ Unreadable fault → r ≡ reportedWith 96 x → r ≡ heardOf identity x mode s
-  unfolding heardOf onReading
-  heard-wrong fault e p = rw (ours, none, e) p
+  pub due-wrong : (fault : Fault) → readMessage s ≡ Unreadable fault → r ≡ Reported 96 → r ≡ dueOf identity x mode s
+  unfolding dueOf readingDue
+  due-wrong fault e p = rw (ours, none, e) p
 
-  pub heard-long : readMessage s ≡ TooLong → r ≡ reportedWith 96 x → r ≡ heardOf identity x mode s
-  unfolding heardOf onReading
-  heard-long e p = rw (ours, none, e) p
+  pub due-long : readMessage s ≡ TooLong → r ≡ Reported 96 → r ≡ dueOf identity x mode s
+  unfolding dueOf readingDue
+  due-long e p = rw (ours, none, e) p

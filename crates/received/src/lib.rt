@@ -3,7 +3,9 @@ ghost use mathlib.Core.Path.{_≡_};
 ghost use lib.ListN.{length};
 ghost use Prim.Native.Nat.{_+_, _≤_};
 ghost use Rattle.octets.specs.Run.{part};
-ghost use Rattle.received.specs.Received.{sameOctets, transactionIs, isNotOurs, causeIn, typeCause, namesOther, disowns, understoodOf, heardOf, Within};
+ghost use Rattle.received.specs.Received.{sameOctets, transactionIs, isNotOurs, causeIn, typeCause, namesOther, disowns, heardOf, Within};
+ghost use Rattle.received.specs.Due.{dueOf, understoodDue};
+use call::Due;
 use call::Event;
 use call::Stepped;
 use context::Context;
@@ -65,7 +67,7 @@ fn type_cause(context: Context, kind: u8) -> u8
     if 128 <= kind {
         return 97;
     }
-    let decision = transitions::decide(context, 18, kind % 64);
+    let decision = transitions::decide_heard(context, kind % 64);
     cause_in(decision)
 }
 
@@ -142,44 +144,46 @@ fn is_disowning(message: Message) -> bool
 }
 
 // Rules 4 to 6: a message that can be read.
-fn understand(
-    context: Context,
-    identity: &[u8],
-    mode: u8,
-    octets: &[u8],
-    message: Message,
-) -> Stepped
+fn understand(identity: &[u8], mode: u8, octets: &[u8], message: Message) -> Due
     requires { ⌜ Within (now octets) message ⌝ }
-    ensures { λ r. ⌜ r ≡ understoodOf (now (identity .entry)) context mode (now (octets .entry)) message ⌝ }
+    ensures { λ r. ⌜ r ≡ understoodDue (now (identity .entry)) mode (now (octets .entry)) message ⌝ }
 {
     let other = names_other(message, octets, identity);
     if (mode == 1) & other {
-        return call::ignore(context);
+        return Due::Ignored;
     }
     if is_disowning(message) {
-        return call::report(context, 95);
+        return Due::Reported(95);
     }
-    call::step(context, Event::Received(mode, message))
+    Due::Steps(Event::Received(mode, message))
 }
 
-// The six rules.
-pub fn hear(context: Context, identity: &[u8], mode: u8, octets: &[u8]) -> Stepped
-    ensures { λ r. ⌜ r ≡ heardOf (now (identity .entry)) context mode (now (octets .entry)) ⌝ }
+// What is due to a message by the six rules.
+pub fn listen(context: Context, identity: &[u8], mode: u8, octets: &[u8]) -> Due
+    ensures { λ r. ⌜ r ≡ dueOf (now (identity .entry)) context mode (now (octets .entry)) ⌝ }
 {
     if is_not_ours(context, octets) {
-        return call::ignore(context);
+        return Due::Ignored;
     }
     let cause = type_cause(context, octets[1]);
     if cause != 0 {
-        return call::report(context, cause);
+        return Due::Reported(cause);
     }
     match message::read(octets) {
         Reading::Is {
             flag: _,
             value: _,
             message,
-        } => understand(context, identity, mode, octets, message),
-        Reading::Unreadable(_) => call::report(context, 96),
-        Reading::TooLong => call::report(context, 96),
+        } => understand(identity, mode, octets, message),
+        Reading::Unreadable(_) => Due::Reported(96),
+        Reading::TooLong => Due::Reported(96),
     }
+}
+
+// The six rules.
+pub fn hear(context: Context, identity: &[u8], mode: u8, octets: &[u8]) -> Stepped
+    ensures { λ r. ⌜ r ≡ heardOf (now (identity .entry)) context mode (now (octets .entry)) ⌝ }
+{
+    let due = listen(context, identity, mode, octets);
+    call::settle(context, due)
 }

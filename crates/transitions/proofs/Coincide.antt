@@ -8,3 +8,6 @@ use Rattle.transitions.specs.Table.{decidedOf}
 
 pub decide-coincides : (x : Context) (number code : ℕ) (a b : Decision) → a ≡ decidedOf x number code → b ≡ decidedOf x number code → a ≡ b
 decide-coincides x number code a b = coincide (decidedOf x number code) a b
+
+pub decide-heard-coincides : (x : Context) (code : ℕ) (a b : Decision) → a ≡ decidedOf x 18 code → b ≡ decidedOf x 18 code → a ≡ b
+decide-heard-coincides x code a b = coincide (decidedOf x 18 code) a b

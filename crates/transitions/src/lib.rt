@@ -324,3 +324,20 @@ pub fn decide(context: Context, number: u8, code: u8) -> Decision
         State::U6 => in_u6(context, number, code),
     }
 }
+
+// What the table says of a message in the context's state: event 18 of `decide`. It is asked before a message is read, and by itself it is small.
+pub fn decide_heard(context: Context, code: u8) -> Decision
+    ensures { λ r. ⌜ r ≡ decidedOf context 18 code ⌝ }
+{
+    let state = context.state;
+    match state {
+        State::U0 => Decision::Ignore,
+        State::U0p => heard_in_u0p(context, code),
+        State::U1 => heard_in_u1(context, code),
+        State::U2 => heard_elsewhere(context, code),
+        State::U3 => heard_elsewhere(context, code),
+        State::U4 => heard_elsewhere(context, code),
+        State::U5 => heard_in_u5(context, code),
+        State::U6 => heard_elsewhere(context, code),
+    }
+}

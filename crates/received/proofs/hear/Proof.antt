@@ -1,35 +1,15 @@
--- `hear` meets its contract: rules 1, 2 and 3, and what reading gives.
+-- `hear` meets its contract: what is due, done, is what the rules say.
 use borrow.Author.Needs.{needs}
-use borrow.Author.Tests.{eq-eqb, ne-eqb}
-use mathlib.Core.Path.{sym, _∙_}
-use Rattle.received.specs.Received.{heardOf}
-use Rattle.received.proofs.Lying.{read-within}
-use Rattle.received.proofs.Rules.{ours-two, heard-read, heard-wrong, heard-long}
+use mathlib.Core.Path.{ap, _∙_}
+use Rattle.call.specs.Due.{settled}
+use Rattle.received.proofs.Dues.{due-heard}
 use Rattle.received.proofs.hear.Statement.{statement}
 use Rattle.received.proofs.hear.Tie as tie
 
 pub hear-spec : {M : Type 1} → statement M
-unfolding heardOf
 hear-spec =
     tie.close
     (tie.spec
     (λ c κs. search needs)
     (λ c κs. search needs)
-    (λ c. rw (c .ignore .ensures, ← c .before .before .is-not-ours .ensures, c .before .if1 .taken))
-    (λ c. ours-two (c .before .before .before .before .before .args .context) (c .before .before .before .before .before .args .octets .now) (sym (c .before .before .is-not-ours .ensures) ∙ c .before .if1 .left))
-    (λ c κs. search needs)
-    (λ c κs. search needs)
-    (λ c. rw (c .report .ensures, ← c .before .before .before .before .before .is-not-ours .ensures, c .before .before .before .before .if1 .left, ← c .before .before .type-cause .ensures, ne-eqb _ _ (c .before .if2 .taken)))
-    (λ c κs. search needs)
-    (λ c. search needs)
-    (λ c κs. read-within (c .before .before .before .before .before .before .before .before .before .before .before .args .octets .now) _ _ _ (sym (c .before .before .before .read .ensures) ∙ c .before .message .given .1))
-    (λ c. search needs)
-    (λ c κs. search needs)
-    (λ c. search needs)
-    (λ c κs. search needs)
-    (λ c. heard-read (c .before .before .before .before .before .before .before .before .before .before .before .before .args .identity .now) (c .before .before .before .before .before .before .before .before .before .before .before .before .args .context) (c .before .before .before .before .before .before .before .before .before .before .before .before .args .mode) (c .before .before .before .before .before .before .before .before .before .before .before .before .args .octets .now) (sym (c .before .before .before .before .before .before .before .before .before .is-not-ours .ensures) ∙ c .before .before .before .before .before .before .before .before .if1 .left) (sym (c .before .before .before .before .before .before .type-cause .ensures) ∙ c .before .before .before .before .before .if2 .left) _ _ _ _
-    (sym (c .before .before .before .before .read .ensures) ∙ c .before .before .message .given .1) (c .understand .ensures))
-    (λ c. heard-wrong (c .before .before .before .before .before .before .before .before .before .before .before .args .identity .now) (c .before .before .before .before .before .before .before .before .before .before .before .args .context) (c .before .before .before .before .before .before .before .before .before .before .before .args .mode) (c .before .before .before .before .before .before .before .before .before .before .before .args .octets .now) (sym (c .before .before .before .before .before .before .before .before .is-not-ours .ensures) ∙ c .before .before .before .before .before .before .before .if1 .left) (sym (c .before .before .before .before .before .type-cause .ensures) ∙ c .before .before .before .before .if2 .left) _ _
-    (sym (c .before .before .before .read .ensures) ∙ c .before .enum-told .given .1) (c .report2 .ensures))
-    (λ c. heard-long (c .before .before .before .before .before .before .before .before .before .before .before .args .identity .now) (c .before .before .before .before .before .before .before .before .before .before .before .args .context) (c .before .before .before .before .before .before .before .before .before .before .before .args .mode) (c .before .before .before .before .before .before .before .before .before .before .before .args .octets .now) (sym (c .before .before .before .before .before .before .before .before .is-not-ours .ensures) ∙ c .before .before .before .before .before .before .before .if1 .left) (sym (c .before .before .before .before .before .type-cause .ensures) ∙ c .before .before .before .before .if2 .left) _
-    (sym (c .before .before .before .read .ensures) ∙ c .before .enum-told2 .given .1) (c .report3 .ensures)))
+    (λ c. c .settle .ensures ∙ (ap (settled (c .before .before .before .before .args .context)) (c .before .listen .ensures) ∙ due-heard (c .before .before .before .before .args .identity .now) (c .before .before .before .before .args .context) (c .before .before .before .before .args .mode) (c .before .before .before .before .args .octets .now))))

@@ -1,0 +1,311 @@
+/* bench.c: times ours (libcontroller.a) against plain C twins on the same logs, turn by turn in one process, after seeing that both answer alike.
+ * README.md says how to read what it prints. */
+#include <stdio.h>
+#include <stdlib.h>
+#include <string.h>
+#include <time.h>
+#include "logs.h"
+#include "stack.h"
+
+enum { ROUNDS = 21 };
+
+static struct logs logs, spoilt, cut;
+static volatile size_t sink;
+
+/* What is timed: one pass over all that it has. */
+struct work {
+    void (*pass)(const struct work *);
+    const struct log *first;
+    size_t count;
+};
+
+static void judge_ours(const struct work *work)
+{
+    for (size_t i = 0; i < work->count; i++)
+        sink += heidezirkel_judge(bench_settings, work->first[i].bytes, work->first[i].used).entry;
+}
+
+static void judge_twin(const struct work *work)
+{
+    for (size_t i = 0; i < work->count; i++)
+        sink += twin_judge(bench_settings, work->first[i].bytes, work->first[i].used).entry;
+}
+
+typedef struct heidezirkel_step step_function(uint8_t *, const uint8_t *, struct heidezirkel_event, const uint8_t *, size_t, uint8_t *, size_t);
+
+static inline void all_steps(step_function *step)
+{
+    uint8_t context[16], reply[255];
+    for (size_t i = 0; i < logs.step_count; i++) {
+        const struct step_case *at = &logs.steps[i];
+        memcpy(context, at->context, 16);
+        sink += step(context, bench_settings, at->event, at->message, at->length, reply, sizeof reply).reply_length;
+    }
+}
+
+static void step_ours(const struct work *work)
+{
+    (void)work;
+    all_steps(heidezirkel_step);
+}
+
+static void step_twin(const struct work *work)
+{
+    (void)work;
+    all_steps(twin_step);
+}
+
+static inline void all_numbers(struct heidezirkel_number (*read)(const uint8_t *, size_t, size_t))
+{
+    size_t at = 0;
+    while (at < logs.numbers.used) {
+        struct heidezirkel_number number = read(logs.numbers.bytes, logs.numbers.used, at);
+        sink += number.value;
+        at = number.next;
+    }
+}
+
+static void numbers_ours(const struct work *work)
+{
+    (void)work;
+    all_numbers(heidezirkel_read_number);
+}
+
+static void numbers_twin(const struct work *work)
+{
+    (void)work;
+    all_numbers(twin_read_number);
+}
+
+/* The answers, first of all. */
+static int differences;
+
+static void differ(const char *what, size_t place)
+{
+    if (differences++ < 10)
+        printf("ours and the twin differ: %s, number %zu\n", what, place);
+}
+
+static bool alike(const struct heidezirkel_judgement *ours, const struct heidezirkel_judgement *twin)
+{
+    return ours->answer == twin->answer && ours->entry == twin->entry && ours->least_ms == twin->least_ms && ours->greatest_ms == twin->greatest_ms;
+}
+
+static void same_judgement(const char *what, size_t place, const struct log *log, uint32_t wanted)
+{
+    struct heidezirkel_judgement ours = heidezirkel_judge(bench_settings, log->bytes, log->used);
+    struct heidezirkel_judgement twin = twin_judge(bench_settings, log->bytes, log->used);
+    if (!alike(&ours, &twin))
+        differ(what, place);
+    if (twin.answer != wanted) {
+        printf("%s, number %zu: answer %u at entry %zu, and %u is wanted\n", what, place, twin.answer, twin.entry, wanted);
+        differences++;
+    }
+}
+
+static void same_judgements(const struct logs *of, const char *what, uint32_t wanted)
+{
+    same_judgement(what, 0, &of->large, wanted);
+    for (size_t i = 0; i < of->smalls; i++)
+        same_judgement(what, i + 1, &of->small[i], wanted);
+}
+
+/* Each byte of a small log changed in turn: any answer, but the same. */
+static void same_when_changed(void)
+{
+    static struct log log;
+    log = logs.small[0];
+    for (size_t i = 0; i < log.used; i++) {
+        uint8_t kept = log.bytes[i];
+        for (int bit = 0; bit < 8; bit++) {
+            log.bytes[i] = kept ^ (1 << bit);
+            struct heidezirkel_judgement ours = heidezirkel_judge(bench_settings, log.bytes, log.used);
+            struct heidezirkel_judgement twin = twin_judge(bench_settings, log.bytes, log.used);
+            if (!alike(&ours, &twin))
+                differ("a log with one bit changed, at byte", i);
+        }
+        log.bytes[i] = kept;
+    }
+}
+
+static void same_steps(void)
+{
+    for (size_t i = 0; i < logs.step_count; i++) {
+        const struct step_case *at = &logs.steps[i];
+        uint8_t ours_context[16], twin_context[16], ours_reply[255] = {0}, twin_reply[255] = {0};
+        memcpy(ours_context, at->context, 16);
+        memcpy(twin_context, at->context, 16);
+        struct heidezirkel_step ours = heidezirkel_step(ours_context, bench_settings, at->event, at->message, at->length, ours_reply, 255);
+        struct heidezirkel_step twin = twin_step(twin_context, bench_settings, at->event, at->message, at->length, twin_reply, 255);
+        if (ours.answer != twin.answer || ours.actions != twin.actions || ours.reply_length != twin.reply_length
+            || memcmp(ours_context, twin_context, 16) != 0 || memcmp(ours_reply, twin_reply, 255) != 0)
+            differ("a step", i);
+    }
+}
+
+static void same_numbers(void)
+{
+    for (size_t at = 0; at < logs.numbers.used; at++) {
+        struct heidezirkel_number ours = heidezirkel_read_number(logs.numbers.bytes, logs.numbers.used, at);
+        struct heidezirkel_number twin = twin_read_number(logs.numbers.bytes, logs.numbers.used, at);
+        if (ours.answer != twin.answer || (ours.answer == 0 && (ours.value != twin.value || ours.next != twin.next)))
+            differ("a number at byte", at);
+    }
+}
+
+static double seconds(void)
+{
+    struct timespec now;
+    clock_gettime(CLOCK_PROCESS_CPUTIME_ID, &now);
+    return now.tv_sec + now.tv_nsec * 1e-9;
+}
+
+static double timed(const struct work *work, long passes)
+{
+    double start = seconds();
+    for (long i = 0; i < passes; i++)
+        work->pass(work);
+    return (seconds() - start) / passes;
+}
+
+static int by_size(const void *left, const void *right)
+{
+    double a = *(const double *)left, b = *(const double *)right;
+    return (a > b) - (a < b);
+}
+
+/* The seconds of one pass of each of two works: medians over the rounds, in which they take turns at going first. */
+struct medians {
+    double left, right;
+};
+
+static struct medians measure(const struct work *left, const struct work *right, double least)
+{
+    double lefts[ROUNDS], rights[ROUNDS];
+    long passes = 1;
+    while (timed(left, passes) * passes < least)
+        passes *= 2;
+    for (int round = 0; round < ROUNDS; round++) {
+        if (round % 2 == 0)
+            lefts[round] = timed(left, passes);
+        rights[round] = timed(right, passes);
+        if (round % 2 == 1)
+            lefts[round] = timed(left, passes);
+    }
+    qsort(lefts, ROUNDS, sizeof *lefts, by_size);
+    qsort(rights, ROUNDS, sizeof *rights, by_size);
+    return (struct medians){lefts[ROUNDS / 2], rights[ROUNDS / 2]};
+}
+
+static size_t bytes_of(const struct work *work)
+{
+    size_t bytes = 0;
+    for (size_t i = 0; i < work->count; i++)
+        bytes += work->first[i].used;
+    return bytes;
+}
+
+static double show(const char *name, const struct work *ours, const struct work *twin, size_t units, const char *unit, double least)
+{
+    struct medians m = measure(ours, twin, least);
+    printf("%-40s %8.2f %8.2f  %-10s %6.3f\n", name, m.left * 1e9 / units, m.right * 1e9 / units, unit, m.left / m.right);
+    return m.left / m.right;
+}
+
+static double show_judge(const char *name, const struct log *first, size_t count, double least)
+{
+    struct work ours = {judge_ours, first, count}, twin = {judge_twin, first, count};
+    return show(name, &ours, &twin, bytes_of(&ours), "ns a byte", least);
+}
+
+static double show_steps(double least)
+{
+    struct work ours = {step_ours, NULL, 0}, twin = {step_twin, NULL, 0};
+    return show("step", &ours, &twin, logs.step_count, "ns a step", least);
+}
+
+static double show_numbers(double least)
+{
+    struct work ours = {numbers_ours, NULL, 0}, twin = {numbers_twin, NULL, 0};
+    return show("number reader", &ours, &twin, logs.numbers.used, "ns a byte", least);
+}
+
+/* What a byte costs in a log of 64 KiB, against the same calls in logs of 4 KiB. */
+static double growth(void (*pass)(const struct work *), double least)
+{
+    struct work large = {pass, &logs.large, 1}, small = {pass, logs.small, logs.smalls};
+    struct medians m = measure(&large, &small, least);
+    return (m.left / bytes_of(&large)) / (m.right / bytes_of(&small));
+}
+
+static void show_goal(const char *goal, double found, double most)
+{
+    printf("%-40s %8.3f  at most %.2f: %s\n", goal, found, most, found <= most ? "met" : "MISSED");
+}
+
+static void show_all(double least)
+{
+    printf("%-40s %8s %8s  %-10s %6s\n", "", "ours", "twin", "", "ratio");
+    show_judge("judge, 4 KiB, true", logs.small, logs.smalls, least);
+    double large = show_judge("judge, 64 KiB, true", &logs.large, 1, least);
+    show_judge("judge, 4 KiB, last entry unexplained", spoilt.small, spoilt.smalls, least);
+    double last = show_judge("judge, 64 KiB, last entry unexplained", &spoilt.large, 1, least);
+    show_judge("judge, 4 KiB, last entry unreadable", cut.small, cut.smalls, least);
+    show_judge("judge, 64 KiB, last entry unreadable", &cut.large, 1, least);
+    show_steps(least);
+    show_numbers(least);
+    show_goal("judge, 64 KiB, ours to the twin", large > last ? large : last, 1.0);
+    show_goal("a byte at 64 KiB to one at 4 KiB, ours", growth(judge_ours, least), 1.05);
+}
+
+static void spoil(struct logs *of, void (*how)(struct log *))
+{
+    *of = logs;
+    how(&of->large);
+    for (size_t i = 0; i < of->smalls; i++)
+        how(&of->small[i]);
+}
+
+/* For counting instructions: one thing, so many passes over the large log, the steps or the numbers. */
+static int count_one(const char *what, long passes)
+{
+    static const struct {
+        const char *name;
+        void (*pass)(const struct work *);
+    } known[] = {{"judge-ours", judge_ours}, {"judge-twin", judge_twin}, {"step-ours", step_ours}, {"step-twin", step_twin},
+        {"numbers-ours", numbers_ours}, {"numbers-twin", numbers_twin}};
+    for (size_t i = 0; i < sizeof known / sizeof *known; i++) {
+        struct work work = {known[i].pass, &logs.large, 1};
+        if (strcmp(what, known[i].name) == 0) {
+            timed(&work, passes);
+            return 0;
+        }
+    }
+    return 2;
+}
+
+int main(int argc, char **argv)
+{
+    make_logs(&logs);
+    if (argc > 2)
+        return count_one(argv[1], atol(argv[2]));
+    spoil(&spoilt, spoil_claim);
+    spoil(&cut, cut_short);
+    printf("a log of %zu bytes, %zu entries; %zu logs of the same calls, %zu bytes and %zu entries the first\n", logs.large.used,
+        twin_judge(bench_settings, logs.large.bytes, logs.large.used).entry, logs.smalls, logs.small[0].used,
+        twin_judge(bench_settings, logs.small[0].bytes, logs.small[0].used).entry);
+    same_judgements(&logs, "true log", HEIDEZIRKEL_TAKEN);
+    same_judgements(&spoilt, "log with its last claim changed", HEIDEZIRKEL_UNEXPLAINED);
+    same_judgements(&cut, "log cut short", HEIDEZIRKEL_UNREADABLE_LOG);
+    same_when_changed();
+    same_steps();
+    same_numbers();
+    if (differences > 0) {
+        printf("%d differences: nothing is timed\n", differences);
+        return 1;
+    }
+    printf("both answer alike on every log, step and number\n");
+    size_t stack = show_stack(&logs);
+    show_all(argc > 1 ? atof(argv[1]) : 0.02);
+    return stack > 4096;
+}

@@ -1,0 +1,396 @@
+/* logs.c: makes the logs that the bench judges, with the twin's step and recorder: calls that we start and calls that we join, with messages of
+ * every kind that a radio hears, good and faulty, expiries, and events that have no step. A fixed seed: every run has the same logs. */
+#include <string.h>
+#include "logs.h"
+
+/* Key 5, a classmark and an identity of 5 octets. */
+const uint8_t bench_settings[13] = {5, 0x33, 0x19, 0xa2, 5, 0x29, 0x43, 0x65, 0x87, 0x09};
+
+enum { JOINING_MS = 17000 };
+
+/* A radio while its log is made: the call, the time, and when the timer that runs was started. */
+struct radio {
+    struct twin_context context;
+    struct twin_own own;
+    uint64_t now, started;
+    uint32_t seed;
+};
+
+/* What happens next. */
+struct happening {
+    uint32_t delta;
+    struct heidezirkel_event event;
+    size_t length;
+    uint8_t message[251];
+};
+
+static uint32_t chance(struct radio *radio, uint32_t sides)
+{
+    radio->seed ^= radio->seed << 13;
+    radio->seed ^= radio->seed >> 17;
+    radio->seed ^= radio->seed << 5;
+    return radio->seed % sides;
+}
+
+static void put(struct happening *happening, uint8_t octet)
+{
+    if (happening->length < 251)
+        happening->message[happening->length++] = octet;
+}
+
+static void put_any(struct radio *radio, struct happening *happening, uint32_t count)
+{
+    for (uint32_t i = 0; i < count; i++)
+        put(happening, chance(radio, 256));
+}
+
+/* A message with this type and the call's transaction, now and then another. */
+static void hear(struct radio *radio, struct happening *happening, uint8_t type)
+{
+    bool flag = radio->context.state == U0P || radio->context.state == U1 || radio->context.state == U2 || radio->context.state == U5;
+    uint8_t head = 128 * flag + 16 * radio->context.value + 1;
+    if (chance(radio, 25) == 0)
+        head ^= 16;
+    happening->event.number = 18;
+    happening->event.mode = chance(radio, 3) == 0;
+    put(happening, head);
+    put(happening, type + 64 * chance(radio, 2));
+}
+
+/* Optional elements behind a message: mostly none, some that are skipped, few that must be known. */
+static void put_elements(struct radio *radio, struct happening *happening)
+{
+    uint32_t kind = chance(radio, 20);
+    if (kind < 3)
+        put(happening, 0xd0 + chance(radio, 16));
+    if (kind == 2 || kind == 3) {
+        uint32_t count = chance(radio, 12) == 0 ? 20 + chance(radio, 200) : chance(radio, 8);
+        put(happening, 0x30 + chance(radio, 16));
+        put(happening, count);
+        put_any(radio, happening, count);
+    }
+    if (kind == 4)
+        put(happening, chance(radio, 16));
+}
+
+static void connect(struct radio *radio, struct happening *happening)
+{
+    hear(radio, happening, 0x33);
+    put_any(radio, happening, 4);
+    put(happening, chance(radio, 12) != 0);
+    put_elements(radio, happening);
+}
+
+static void get_status(struct radio *radio, struct happening *happening)
+{
+    hear(radio, happening, 0x39);
+    uint32_t kind = chance(radio, 4);
+    if (kind < 2) {
+        put(happening, 0x17);
+        put(happening, radio->own.identity_length);
+        for (int i = 0; i < radio->own.identity_length; i++)
+            put(happening, radio->own.identity[i]);
+    }
+    if (kind == 1)
+        happening->message[happening->length - 1] ^= chance(radio, 2);
+    put_elements(radio, happening);
+}
+
+static void set_parameter(struct radio *radio, struct happening *happening)
+{
+    hear(radio, happening, 0x3a);
+    put(happening, chance(radio, 3) == 0 ? chance(radio, 16) : 15);
+    put_elements(radio, happening);
+}
+
+/* TERMINATION and TERMINATION REJECT. */
+static void with_cause(struct radio *radio, struct happening *happening, uint8_t type)
+{
+    uint32_t count = chance(radio, 4) == 0 ? 1 + chance(radio, 6) : 1;
+    hear(radio, happening, type);
+    put(happening, count);
+    put(happening, 0x90);
+    put_any(radio, happening, count - 1);
+    put_elements(radio, happening);
+}
+
+/* A message that is reported or ignored: of another side, of no known type, or cut short. */
+static void odd_message(struct radio *radio, struct happening *happening)
+{
+    switch (chance(radio, 4)) {
+    case 0:
+        hear(radio, happening, 0x32);
+        put_any(radio, happening, 4);
+        break;
+    case 1:
+        hear(radio, happening, chance(radio, 64));
+        put_any(radio, happening, chance(radio, 6) == 0 ? chance(radio, 240) : chance(radio, 12));
+        break;
+    case 2:
+        hear(radio, happening, 0x34);
+        put(happening, 9);
+        put_any(radio, happening, chance(radio, 8));
+        break;
+    default:
+        connect(radio, happening);
+        happening->length = 1 + chance(radio, 6);
+    }
+}
+
+/* Set-up, immediate set-up or notification. */
+static void with_call(struct radio *radio, struct happening *happening, uint32_t number)
+{
+    happening->event.number = number;
+    happening->event.value = chance(radio, 7);
+    for (int i = 0; i < 4; i++)
+        happening->event.reference[i] = chance(radio, 256);
+}
+
+static void plain(struct happening *happening, uint32_t number)
+{
+    happening->event.number = number;
+}
+
+static void in_u0(struct radio *radio, struct happening *happening, uint32_t die)
+{
+    if (die < 40)
+        with_call(radio, happening, 1);
+    else if (die < 55)
+        with_call(radio, happening, 2);
+    else if (die < 95)
+        with_call(radio, happening, 10);
+    else
+        with_cause(radio, happening, 0x34);
+}
+
+static void in_u0p(struct radio *radio, struct happening *happening, uint32_t die)
+{
+    if (die < 80)
+        plain(happening, 6);
+    else if (die < 85)
+        plain(happening, 7);
+    else if (die < 90)
+        plain(happening, 14);
+    else if (die < 93)
+        plain(happening, 8);
+    else
+        connect(radio, happening);
+}
+
+static void in_u1(struct radio *radio, struct happening *happening, uint32_t die)
+{
+    if (die < 70)
+        connect(radio, happening);
+    else if (die < 76)
+        plain(happening, 4);
+    else if (die < 82)
+        with_cause(radio, happening, 0x34);
+    else if (die < 90)
+        get_status(radio, happening);
+    else if (die < 94)
+        odd_message(radio, happening);
+    else
+        plain(happening, die < 97 ? 14 : 8);
+}
+
+static void in_u2(struct radio *radio, struct happening *happening, uint32_t die)
+{
+    if (die < 35)
+        get_status(radio, happening);
+    else if (die < 55)
+        set_parameter(radio, happening);
+    else if (die < 65)
+        odd_message(radio, happening);
+    else if (die < 85)
+        plain(happening, 4);
+    else if (die < 93)
+        with_cause(radio, happening, 0x34);
+    else
+        plain(happening, die < 95 ? 5 : die < 97 ? 8 : 9);
+}
+
+static void in_u5(struct radio *radio, struct happening *happening, uint32_t die)
+{
+    if (die < 40)
+        with_cause(radio, happening, 0x34);
+    else if (die < 65)
+        with_cause(radio, happening, 0x36);
+    else if (die < 75)
+        get_status(radio, happening);
+    else if (die < 80)
+        odd_message(radio, happening);
+    else
+        plain(happening, die < 92 ? 15 : 5);
+}
+
+static void in_u3_or_u4(struct radio *radio, struct happening *happening, uint32_t die)
+{
+    uint32_t onward = radio->context.state == U3 ? 3 : 11;
+    if (die < 80)
+        plain(happening, onward);
+    else if (die < 85)
+        plain(happening, radio->context.state == U3 ? 9 : 16);
+    else if (die < 90)
+        with_cause(radio, happening, 0x34);
+    else if (die < 95)
+        get_status(radio, happening);
+    else
+        plain(happening, die < 97 ? 5 : 8);
+}
+
+static void in_u6(struct radio *radio, struct happening *happening, uint32_t die)
+{
+    if (die < 35)
+        plain(happening, 12);
+    else if (die < 65)
+        plain(happening, 13);
+    else if (die < 70)
+        plain(happening, 17);
+    else if (die < 80)
+        set_parameter(radio, happening);
+    else if (die < 85)
+        get_status(radio, happening);
+    else if (die < 96)
+        with_cause(radio, happening, 0x34);
+    else
+        plain(happening, die < 98 ? 5 : 9);
+}
+
+static void choose(struct radio *radio, struct happening *happening)
+{
+    uint32_t die = chance(radio, 100);
+    if (chance(radio, 16) == 0) {
+        with_call(radio, happening, 1 + chance(radio, 17));
+        return;
+    }
+    switch (radio->context.state) {
+    case U0:
+        in_u0(radio, happening, die);
+        break;
+    case U0P:
+        in_u0p(radio, happening, die);
+        break;
+    case U1:
+        in_u1(radio, happening, die);
+        break;
+    case U2:
+        in_u2(radio, happening, die);
+        break;
+    case U5:
+        in_u5(radio, happening, die);
+        break;
+    case U6:
+        in_u6(radio, happening, die);
+        break;
+    default:
+        in_u3_or_u4(radio, happening, die);
+    }
+}
+
+/* When it happens: at the end of the timer whose expiry it is, and else before the end of the timer that runs. */
+static void set_time(struct radio *radio, struct happening *happening)
+{
+    static const uint32_t lengths[5] = {0, 5000, 10000, JOINING_MS, 3000};
+    enum twin_timer timer = twin_running(&radio->context);
+    if (timer == NO_TIMER) {
+        happening->delta = chance(radio, 20) == 0 ? chance(radio, 3600000) : chance(radio, 9000);
+        return;
+    }
+    uint32_t left = lengths[timer] - (uint32_t)(radio->now - radio->started);
+    bool expires = happening->event.number == 13u + timer;
+    happening->delta = expires ? left : chance(radio, left / 2 + 1);
+}
+
+static void pack(const struct twin_context *context, uint8_t octets[16])
+{
+    memset(octets, 0, 16);
+    octets[0] = context->state;
+    octets[1] = twin_parameters(context);
+    octets[2] = 8 * context->mm_est + 4 * context->term + 2 * context->conn_req + context->no_channel;
+    octets[3] = context->value;
+    memcpy(octets + 4, context->reference, 4);
+}
+
+static void keep_step(struct logs *logs, const struct radio *radio, const struct happening *happening)
+{
+    if (logs->step_count == STEPS)
+        return;
+    struct step_case *kept = &logs->steps[logs->step_count++];
+    pack(&radio->context, kept->context);
+    kept->event = happening->event;
+    kept->length = happening->length;
+    memcpy(kept->message, happening->message, happening->length);
+}
+
+static void append(struct log *log, const struct happening *happening, const struct heidezirkel_step *step, const struct radio *radio,
+    const uint8_t *reply, uint32_t delta)
+{
+    log->last = log->used == 0 ? 1 : log->used;
+    log->used = twin_record(log->bytes, log->used, delta, &happening->event, happening->message, happening->length, step, &radio->context, reply);
+}
+
+/* One entry, into the large log and into the small one at hand. */
+static void live(struct logs *logs, struct radio *radio)
+{
+    struct happening happening = {0};
+    uint8_t reply[255];
+    choose(radio, &happening);
+    set_time(radio, &happening);
+    keep_step(logs, radio, &happening);
+    enum twin_timer before = twin_running(&radio->context);
+    struct heidezirkel_step step
+        = twin_take(&radio->context, &radio->own, &happening.event, happening.message, happening.length, reply, sizeof reply);
+    radio->now += happening.delta;
+    if (twin_running(&radio->context) != before)
+        radio->started = radio->now;
+    append(&logs->large, &happening, &step, radio, reply, happening.delta);
+    append(&logs->small[logs->smalls], &happening, &step, radio, reply, happening.delta);
+}
+
+static void make_numbers(struct log *numbers, struct radio *radio)
+{
+    while (numbers->used < LOG_ROOM - 5) {
+        uint64_t number = ((uint64_t)chance(radio, 65536) << 16) + chance(radio, 65536);
+        number >>= chance(radio, 3) == 0 ? chance(radio, 28) : 25 + chance(radio, 7);
+        while (number >= 128) {
+            numbers->bytes[numbers->used++] = 128 + number % 128;
+            number /= 128;
+        }
+        numbers->bytes[numbers->used++] = number;
+    }
+}
+
+void make_logs(struct logs *logs)
+{
+    struct radio radio = {.own = twin_read_own(bench_settings), .seed = 20240229};
+    memset(logs, 0, sizeof *logs);
+    /* The longest entry has 4 + 1 + 1 + 2 + 251 + 4 + 2 + 251 bytes. */
+    while (logs->large.used < LOG_ROOM - 516) {
+        live(logs, &radio);
+        if (radio.context.state == U0 && logs->small[logs->smalls].used > 4096 - 64 && logs->smalls < SMALL_LOGS - 1)
+            logs->smalls++;
+    }
+    if (logs->small[logs->smalls].used > 2048)
+        logs->smalls++;
+    make_numbers(&logs->numbers, &radio);
+}
+
+void spoil_claim(struct log *log)
+{
+    /* A state of 7 too many would be unreadable: another state that exists. The last four numbers before the reply are one byte each. */
+    struct heidezirkel_number delta = twin_read_number(log->bytes, log->used, log->last);
+    size_t at = delta.next;
+    uint8_t event = log->bytes[at++];
+    if (event == 1 || event == 2 || event == 10)
+        at += 5;
+    if (event == 18) {
+        struct heidezirkel_number length = twin_read_number(log->bytes, log->used, at + 1);
+        at = length.next + length.value;
+    }
+    log->bytes[at + 1] ^= 1;
+}
+
+void cut_short(struct log *log)
+{
+    log->used--;
+}

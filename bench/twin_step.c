@@ -1,0 +1,540 @@
+/* twin_step.c: the step of a call in plain C: document 01's table, its rules for received messages, and the replies. */
+#include <string.h>
+#include "twin.h"
+
+enum {
+    INFORM = 1,
+    REQUEST_MM = 2,
+    REQUEST_GROUP_RECEIVE = 4,
+    ABORT = 8,
+    RELEASE = 16,
+    IMPLICIT_MM = 32,
+};
+
+enum {
+    IMMEDIATE_SETUP = 0x31,
+    SETUP = 0x32,
+    CONNECT = 0x33,
+    TERMINATION = 0x34,
+    TERMINATION_REQUEST = 0x35,
+    TERMINATION_REJECT = 0x36,
+    STATUS = 0x38,
+    GET_STATUS = 0x39,
+    SET_PARAMETER = 0x3a,
+};
+
+/* ORIG, COMM, D-ATT, U-ATT of each state: 6.1.2.1.2 to 6.1.2.1.9. */
+static const bool start_rows[8][4] = {
+    {false, false, false, false},
+    {true, false, false, false},
+    {true, true, false, false},
+    {true, true, true, true},
+    {false, false, false, false},
+    {false, false, false, false},
+    {true, true, true, true},
+    {false, false, true, false},
+};
+
+struct twin_own twin_read_own(const uint8_t settings[13])
+{
+    struct twin_own own;
+    own.key = settings[0];
+    memcpy(own.classmark, settings + 1, 3);
+    own.identity_length = settings[4];
+    memcpy(own.identity, settings + 5, 8);
+    return own;
+}
+
+bool twin_own_in_range(const struct twin_own *own)
+{
+    return own->key <= 7 && own->identity_length >= 1 && own->identity_length <= 8;
+}
+
+int twin_parameters(const struct twin_context *context)
+{
+    return 8 * context->orig + 4 * context->comm + 2 * context->datt + context->uatt;
+}
+
+enum twin_timer twin_running(const struct twin_context *context)
+{
+    if (context->mm_est)
+        return T_MM_EST;
+    if (context->term)
+        return T_TERM;
+    if (context->conn_req)
+        return T_CONN_REQ;
+    if (context->no_channel)
+        return T_NO_CHANNEL;
+    return NO_TIMER;
+}
+
+/* 6.1.2.1.11 */
+static bool is_consistent(enum twin_state state, bool orig, bool comm)
+{
+    switch (state) {
+    case U3:
+    case U4:
+    case U6:
+        return !orig && !comm;
+    case U0:
+        return !comm;
+    default:
+        return true;
+    }
+}
+
+static bool is_fit(const struct twin_context *context)
+{
+    if (!is_consistent(context->state, context->orig, context->comm) || context->value > 6)
+        return false;
+    if (context->mm_est ? context->state != U0P && context->state != U1 : context->state == U0P)
+        return false;
+    if (context->term && context->state != U5)
+        return false;
+    if (context->conn_req != (context->state == U4))
+        return false;
+    if (context->no_channel && context->state != U6)
+        return false;
+    if (context->state == U0) {
+        if (context->orig || context->datt || context->uatt || context->value != 0)
+            return false;
+        for (int i = 0; i < 4; i++)
+            if (context->reference[i] != 0)
+                return false;
+    }
+    return true;
+}
+
+static void enter(struct twin_context *context, enum twin_state state)
+{
+    if (state == U0) {
+        memset(context, 0, sizeof *context);
+        return;
+    }
+    context->state = state;
+    context->orig = start_rows[state][0];
+    context->comm = start_rows[state][1];
+    context->datt = start_rows[state][2];
+    context->uatt = start_rows[state][3];
+}
+
+static struct heidezirkel_step answer(uint32_t number)
+{
+    return (struct heidezirkel_step){number, 0, 0};
+}
+
+static struct heidezirkel_step taken(uint32_t actions, size_t reply_length)
+{
+    return (struct heidezirkel_step){HEIDEZIRKEL_TAKEN, actions, reply_length};
+}
+
+static struct heidezirkel_step end_call(struct twin_context *context, uint32_t actions)
+{
+    enter(context, U0);
+    return taken(actions, 0);
+}
+
+static void store(struct twin_context *context, const struct heidezirkel_event *event)
+{
+    context->value = event->value;
+    memcpy(context->reference, event->reference, 4);
+}
+
+/* The transaction flag that the network's messages carry in this state; ours carry the opposite. */
+static bool expected_flag(enum twin_state state)
+{
+    return state == U0P || state == U1 || state == U2 || state == U5;
+}
+
+static size_t put_head(const struct twin_context *context, uint8_t *reply, uint8_t type)
+{
+    reply[0] = (expected_flag(context->state) ? 0 : 128) + 16 * context->value + 1;
+    reply[1] = type;
+    return 2;
+}
+
+/* SETUP and TERMINATION REQUEST: tables 8.5 and 8.9. */
+static size_t put_reference(const struct twin_context *context, uint8_t *reply, uint8_t type)
+{
+    size_t at = put_head(context, reply, type);
+    memcpy(reply + at, context->reference, 4);
+    return at + 4;
+}
+
+/* Table 8.3. */
+static size_t put_immediate_setup(const struct twin_context *context, const struct twin_own *own, uint8_t *reply)
+{
+    size_t at = put_head(context, reply, IMMEDIATE_SETUP);
+    reply[at++] = 16 * own->key;
+    reply[at++] = 3;
+    memcpy(reply + at, own->classmark, 3);
+    at += 3;
+    reply[at++] = own->identity_length;
+    memcpy(reply + at, own->identity, own->identity_length);
+    at += own->identity_length;
+    memcpy(reply + at, context->reference, 4);
+    return at + 4;
+}
+
+/* 9.4.2 */
+static uint8_t call_state(enum twin_state state)
+{
+    switch (state) {
+    case U0P:
+        return 6;
+    case U1:
+        return 1;
+    case U2:
+        return 2;
+    case U3:
+        return 3;
+    case U4:
+        return 4;
+    case U5:
+        return 5;
+    case U6:
+        return 7;
+    default:
+        return 0;
+    }
+}
+
+/* Table 8.6, with `count` octets of the message received behind the cause. */
+static size_t put_status(const struct twin_context *context, uint8_t cause, const uint8_t *message, size_t count, uint8_t *reply)
+{
+    size_t at = put_head(context, reply, STATUS);
+    reply[at++] = 1 + count;
+    reply[at++] = 128 + cause;
+    memcpy(reply + at, message, count);
+    at += count;
+    reply[at++] = 0xa0 + call_state(context->state);
+    reply[at++] = 0xb0 + 8 * context->datt + 4 * context->uatt + 2 * context->comm + context->orig;
+    return at;
+}
+
+static struct heidezirkel_step report(const struct twin_context *context, uint8_t cause, const uint8_t *message, size_t length, uint8_t *reply)
+{
+    if (!context->comm)
+        return answer(HEIDEZIRKEL_IGNORED);
+    size_t count = length <= 245 ? length : 0;
+    struct heidezirkel_step step = {HEIDEZIRKEL_REPORTED, 0, put_status(context, cause, message, count, reply)};
+    return step;
+}
+
+/* A message: the identity and its length, 0 where it has none. */
+struct identity {
+    const uint8_t *octets;
+    size_t length;
+};
+
+/* The optional elements behind the mandatory part. False where one must be known. */
+static bool skip_elements(const uint8_t *message, size_t length, size_t at, struct identity *identity)
+{
+    bool seen = false;
+    while (at < length) {
+        uint8_t identifier = message[at];
+        if (identifier < 16)
+            return false;
+        if (identifier >= 128) {
+            at++;
+            continue;
+        }
+        if (length - at < 2 || length - at - 2 < message[at + 1])
+            return true;
+        if (identifier == 0x17 && !seen) {
+            seen = true;
+            if (message[at + 1] >= 1 && message[at + 1] <= 8) {
+                identity->octets = message + at + 2;
+                identity->length = message[at + 1];
+            }
+        }
+        at += 2 + message[at + 1];
+    }
+    return true;
+}
+
+/* How long the mandatory part is; 0 where it is wrong. */
+static size_t mandatory(uint8_t type, const uint8_t *message, size_t length)
+{
+    switch (type) {
+    case CONNECT:
+        return length >= 7 ? 7 : 0;
+    case SET_PARAMETER:
+        return length >= 3 ? 3 : 0;
+    case TERMINATION:
+    case TERMINATION_REJECT:
+        if (length < 3 || message[2] < 1 || message[2] > 247 || length < 3u + message[2])
+            return 0;
+        return 3 + message[2];
+    default:
+        return 2;
+    }
+}
+
+/* Rule 2: the cause that a type is reported with in a state, 0 where it has a row or a sentence there. */
+static uint8_t type_cause(enum twin_state state, uint8_t octet)
+{
+    if (octet >= 128)
+        return 97;
+    switch (octet & 63) {
+    case TERMINATION:
+    case GET_STATUS:
+    case SET_PARAMETER:
+        return 0;
+    case CONNECT:
+        return state == U0P || state == U1 ? 0 : 98;
+    case TERMINATION_REJECT:
+        return state == U5 ? 0 : 98;
+    case IMMEDIATE_SETUP:
+    case SETUP:
+    case TERMINATION_REQUEST:
+    case STATUS:
+        return 98;
+    default:
+        return 97;
+    }
+}
+
+static struct heidezirkel_step set_parameters(struct twin_context *context, const uint8_t *message, size_t length, uint8_t *reply)
+{
+    uint8_t attributes = message[2];
+    bool orig = attributes & 1, comm = attributes & 2;
+    if (!is_consistent(context->state, orig, comm))
+        return report(context, 98, message, length, reply);
+    context->orig = orig;
+    context->comm = comm;
+    context->datt = attributes & 8;
+    context->uatt = attributes & 4;
+    return taken(0, 0);
+}
+
+static struct heidezirkel_step connect(struct twin_context *context, const uint8_t *message)
+{
+    uint32_t actions = context->state == U1 && context->mm_est ? IMPLICIT_MM : 0;
+    memcpy(context->reference, message + 2, 4);
+    context->mm_est = false;
+    enter(context, U2);
+    return taken(actions, 0);
+}
+
+/* The six rules of received messages, in their order. */
+static struct heidezirkel_step hear(struct twin_context *context, const struct twin_own *own, uint8_t mode, const uint8_t *message, size_t length,
+    uint8_t *reply)
+{
+    if (context->state == U0 || length < 2 || (message[0] & 15) != 1)
+        return answer(HEIDEZIRKEL_IGNORED);
+    if (message[0] >> 4 != 8 * expected_flag(context->state) + context->value)
+        return answer(HEIDEZIRKEL_IGNORED);
+
+    uint8_t cause = type_cause(context->state, message[1]);
+    if (cause != 0)
+        return report(context, cause, message, length, reply);
+
+    uint8_t type = message[1] & 63;
+    struct identity identity = {NULL, 0};
+    size_t end = mandatory(type, message, length);
+    if (end == 0 || !skip_elements(message, length, end, &identity))
+        return report(context, 96, message, length, reply);
+
+    switch (type) {
+    case GET_STATUS:
+        if (mode == 1 && identity.length > 0
+            && (identity.length != own->identity_length || memcmp(identity.octets, own->identity, identity.length) != 0))
+            return answer(HEIDEZIRKEL_IGNORED);
+        if (!context->comm)
+            return answer(HEIDEZIRKEL_IGNORED);
+        return taken(0, put_status(context, 30, message, 0, reply));
+    case CONNECT:
+        if ((message[6] & 1) == 0)
+            return report(context, 95, message, length, reply);
+        return connect(context, message);
+    case SET_PARAMETER:
+        return set_parameters(context, message, length, reply);
+    case TERMINATION_REJECT:
+        context->term = false;
+        return taken(INFORM, 0);
+    default:
+        return end_call(context, INFORM + RELEASE);
+    }
+}
+
+static struct heidezirkel_step in_u0(struct twin_context *context, const struct twin_own *own, const struct heidezirkel_event *event, uint8_t *reply)
+{
+    switch (event->number) {
+    case 1:
+        enter(context, U0P);
+        store(context, event);
+        context->mm_est = true;
+        return taken(REQUEST_MM, 0);
+    case 2:
+        enter(context, U1);
+        store(context, event);
+        context->mm_est = true;
+        return taken(0, put_immediate_setup(context, own, reply));
+    case 10:
+        enter(context, U3);
+        store(context, event);
+        return taken(INFORM, 0);
+    default:
+        return answer(HEIDEZIRKEL_NO_STEP);
+    }
+}
+
+/* U0.p, and U1 but for set-up and terminate. */
+static struct heidezirkel_step while_setting_up(struct twin_context *context, uint32_t event)
+{
+    switch (event) {
+    case 7:
+        return context->mm_est ? end_call(context, 0) : answer(HEIDEZIRKEL_NO_STEP);
+    case 14:
+        return context->mm_est ? end_call(context, ABORT) : answer(HEIDEZIRKEL_NO_STEP);
+    case 8:
+        return end_call(context, ABORT);
+    default:
+        return answer(HEIDEZIRKEL_NO_STEP);
+    }
+}
+
+static struct heidezirkel_step terminate(struct twin_context *context, uint8_t *reply)
+{
+    if (!context->orig)
+        return answer(HEIDEZIRKEL_NO_STEP);
+    context->mm_est = false;
+    context->term = true;
+    enter(context, U5);
+    return taken(0, put_reference(context, reply, TERMINATION_REQUEST));
+}
+
+static struct heidezirkel_step in_u6(struct twin_context *context, uint32_t event)
+{
+    switch (event) {
+    case 12:
+        context->no_channel = true;
+        return taken(INFORM, 0);
+    case 13:
+        context->no_channel = false;
+        return taken(INFORM, 0);
+    case 17:
+        return context->no_channel ? end_call(context, INFORM + ABORT) : answer(HEIDEZIRKEL_NO_STEP);
+    default:
+        return answer(HEIDEZIRKEL_NO_STEP);
+    }
+}
+
+static struct heidezirkel_step happen(struct twin_context *context, const struct twin_own *own, const struct heidezirkel_event *event, uint8_t *reply)
+{
+    uint32_t number = event->number;
+    if (context->state == U0)
+        return in_u0(context, own, event, reply);
+    if (number == 5)
+        return end_call(context, RELEASE);
+    if (number == 9)
+        return end_call(context, INFORM + ABORT);
+    if (number == 8 && context->state >= U2)
+        return end_call(context, INFORM + ABORT);
+
+    switch (context->state) {
+    case U0P:
+        if (number == 6) {
+            context->mm_est = false;
+            enter(context, U1);
+            return taken(0, put_reference(context, reply, SETUP));
+        }
+        return while_setting_up(context, number);
+    case U1:
+        if (number == 4)
+            return terminate(context, reply);
+        return while_setting_up(context, number);
+    case U2:
+        return number == 4 ? terminate(context, reply) : answer(HEIDEZIRKEL_NO_STEP);
+    case U3:
+        if (number != 3)
+            return answer(HEIDEZIRKEL_NO_STEP);
+        context->conn_req = true;
+        enter(context, U4);
+        return taken(REQUEST_GROUP_RECEIVE, 0);
+    case U4:
+        if (number == 11) {
+            context->conn_req = false;
+            enter(context, U6);
+            return taken(INFORM, 0);
+        }
+        return number == 16 ? end_call(context, INFORM + ABORT) : answer(HEIDEZIRKEL_NO_STEP);
+    case U5:
+        return number == 15 && context->term ? end_call(context, INFORM + ABORT) : answer(HEIDEZIRKEL_NO_STEP);
+    default:
+        return in_u6(context, number);
+    }
+}
+
+static bool event_in_range(const struct heidezirkel_event *event)
+{
+    switch (event->number) {
+    case 1:
+    case 2:
+    case 10:
+        return event->value <= 6;
+    case 18:
+        return event->mode <= 1;
+    default:
+        return event->number >= 1 && event->number <= 18;
+    }
+}
+
+struct heidezirkel_step twin_take(struct twin_context *context, const struct twin_own *own, const struct heidezirkel_event *event,
+    const uint8_t *message, size_t length, uint8_t *reply, size_t room)
+{
+    if (!is_fit(context))
+        return answer(HEIDEZIRKEL_NO_CONTEXT);
+    if (room < 255)
+        return answer(HEIDEZIRKEL_SHORT_BUFFER);
+    if (event->number == 18 && length > 251)
+        return answer(HEIDEZIRKEL_LONG_MESSAGE);
+    if (!twin_own_in_range(own) || !event_in_range(event))
+        return answer(HEIDEZIRKEL_OUT_OF_RANGE);
+    if (event->number == 18)
+        return hear(context, own, event->mode, message, length, reply);
+    return happen(context, own, event, reply);
+}
+
+static bool read_context(const uint8_t octets[16], struct twin_context *context)
+{
+    if (octets[0] > 7 || octets[1] > 15 || octets[2] > 15)
+        return false;
+    for (int i = 8; i < 16; i++)
+        if (octets[i] != 0)
+            return false;
+    context->state = octets[0];
+    context->orig = octets[1] & 8;
+    context->comm = octets[1] & 4;
+    context->datt = octets[1] & 2;
+    context->uatt = octets[1] & 1;
+    context->mm_est = octets[2] & 8;
+    context->term = octets[2] & 4;
+    context->conn_req = octets[2] & 2;
+    context->no_channel = octets[2] & 1;
+    context->value = octets[3];
+    memcpy(context->reference, octets + 4, 4);
+    return true;
+}
+
+static void write_context(const struct twin_context *context, uint8_t octets[16])
+{
+    octets[0] = context->state;
+    octets[1] = twin_parameters(context);
+    octets[2] = 8 * context->mm_est + 4 * context->term + 2 * context->conn_req + context->no_channel;
+    octets[3] = context->value;
+    memcpy(octets + 4, context->reference, 4);
+}
+
+struct heidezirkel_step twin_step(uint8_t octets[16], const uint8_t settings[13], struct heidezirkel_event event, const uint8_t *message,
+    size_t length, uint8_t *reply, size_t room)
+{
+    struct twin_context context;
+    if (!read_context(octets, &context))
+        return answer(HEIDEZIRKEL_NO_CONTEXT);
+    struct twin_own own = twin_read_own(settings);
+    struct heidezirkel_step step = twin_take(&context, &own, &event, message, length, reply, room);
+    write_context(&context, octets);
+    return step;
+}
