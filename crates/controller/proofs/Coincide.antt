@@ -5,8 +5,8 @@ use mathlib.Core.List.{List}
 use lib.ListN.{length}
 use lib.Seq.{sets}
 use Rattle.octets.proofs.Coincide.{coincide}
-use Rattle.number.specs.Number.{grouped, numberAt}
-use Rattle.number.specs.Writing.{fitting}
+use Rattle.log_number.specs.Number.{grouped, numberAt}
+use Rattle.log_number.specs.Writing.{fitting}
 use Rattle.context.specs.Context.{cleared}
 use Rattle.log.specs.Layout.{Meant}
 use Rattle.recorder.specs.Recording.{added, afterwards, recordAnswer}

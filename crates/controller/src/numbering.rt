@@ -1,8 +1,8 @@
 // A log's number, for C.
 ghost use mathlib.Core.Path.{_≡_};
-ghost use Rattle.number.specs.Number.{numberAt};
+ghost use Rattle.log_number.specs.Number.{numberAt};
 ghost use Rattle.controller.specs.Numbering.{numberShown};
-use number::Number;
+use log_number::Number;
 
 #[repr(C)]
 pub struct NumberRead {
@@ -16,7 +16,7 @@ pub struct NumberRead {
 pub extern "C" fn heidezirkel_read_number(octets: &[u8], at: usize) -> NumberRead
     ensures { λ r. ⌜ r ≡ numberShown (numberAt (now (octets .entry)) at) ⌝ }
 {
-    match number::read_number(octets, at) {
+    match log_number::read_number(octets, at) {
         Number::Value(value, next) => NumberRead {
             answer: 0,
             value,

@@ -10,8 +10,8 @@ use Rattle.codes.specs.Attributes.{weighs}
 use Rattle.context.specs.declared.Context.{Context}
 use Rattle.context.specs.Context.{cleared}
 use Rattle.context.specs.Running.{runs, expiryOf}
-use Rattle.number.specs.Number.{numberAt}
-use Rattle.number.specs.declared.Number.the-variants.{Value, Unreadable as NoNumber}
+use Rattle.log_number.specs.Number.{numberAt}
+use Rattle.log_number.specs.declared.Number.the-variants.{Value, Unreadable as NoNumber}
 use Rattle.judge.specs.declared.Begun.the-variants.{At, NoVersion}
 use Rattle.judge.specs.declared.Track.{Track}
 use Rattle.judge.specs.declared.Turned.the-variants.{Onward, Stuck}

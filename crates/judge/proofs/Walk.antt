@@ -10,10 +10,10 @@ use borrow.Author.Tests.{le-ltb, lt-ltb, eqb-true}
 use Rattle.context.specs.Context.{cleared}
 use Rattle.context.specs.Running.{joiningLeast, joiningGreatest}
 use Rattle.reply.specs.declared.Own.{Own}
-use Rattle.number.specs.Number.{greatest, numberAt, onNumber}
-use Rattle.number.specs.declared.Number.{Number}
-use Rattle.number.specs.declared.Number.the-variants.{Value, Unreadable as NoNumber}
-use Rattle.number.proofs.Reading.{Moves, number-moves}
+use Rattle.log_number.specs.Number.{greatest, numberAt, onNumber}
+use Rattle.log_number.specs.declared.Number.{Number}
+use Rattle.log_number.specs.declared.Number.the-variants.{Value, Unreadable as NoNumber}
+use Rattle.log_number.proofs.Reading.{Moves, number-moves}
 use Rattle.log.specs.declared.Entry.{Entry}
 use Rattle.log.specs.declared.Found.{Found}
 use Rattle.log.specs.declared.Found.the-variants.{Read, Unreadable}

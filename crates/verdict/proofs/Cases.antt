@@ -13,7 +13,7 @@ use Rattle.reply.specs.declared.Own.{Own}
 use Rattle.reply.specs.Reply.{replyOf}
 use Rattle.received.specs.Received.{isNotOurs, sameOctets, heardOf}
 use Rattle.radio.specs.Step.{eventOf, onEvent, reactedTo, outOfRange, stepOf}
-use Rattle.number.specs.Number.{joined, groupsAt, numberAt, upTo}
+use Rattle.log_number.specs.Number.{joined, groupsAt, numberAt, upTo}
 use Rattle.log.specs.Layout.{carriesCall}
 use Rattle.log.specs.Reading.{smallAt, runAt, callAt, receivedAt, dataAt, claimAt, restAt, entryAt}
 use Rattle.table.specs.Judge.{narrow, turn, judgeFrom, judge}

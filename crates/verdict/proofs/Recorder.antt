@@ -10,8 +10,8 @@ use lib.Seq.{length-take-le}
 use borrow.Author.Tests.{lt-leb}
 use Rattle.context.specs.declared.Context.{Context}
 use Rattle.reply.specs.declared.Own.{Own}
-use Rattle.number.specs.Number.{groupsAt, numberAt}
-use Rattle.number.specs.declared.Number.the-variants.{Value}
+use Rattle.log_number.specs.Number.{groupsAt, numberAt}
+use Rattle.log_number.specs.declared.Number.the-variants.{Value}
 use Rattle.log.specs.Layout.{Meant, carriesCall, ranged, kept, entries as layout, whole}
 use Rattle.log.proofs.ReadBack.{kept-written, kept-ranged}
 use Rattle.recorder.specs.Recording.{Records, soFar}
