@@ -6,7 +6,7 @@
 #include <ucontext.h>
 #include "heidezirkel.h"
 
-enum { STACK = 65536, MOST = 2048, ROUNDS = 20000 };
+enum { STACK = 65536, MOST = 2048, ROUNDS = 20000, OFTEN = 7, CALLS = 9 };
 
 static unsigned char stack[STACK];
 static ucontext_t here, there;
@@ -45,6 +45,10 @@ static void call_settings(void) {
     (void)heidezirkel_read_settings((const uint8_t *)file, sizeof file - 1 - random_below(3), settings);
 }
 
+static struct heidezirkel_reading reading;
+static void call_read(void) { reading = heidezirkel_read_message(octets, random_below(252)); }
+static void call_write(void) { (void)heidezirkel_write_message(reading.message, octets, sizeof octets, reply, sizeof reply); }
+
 /* How much of the painted stack a call changed. */
 static size_t painted(void (*call)(void)) {
     size_t i = 0;
@@ -73,23 +77,24 @@ int main(void) {
     static const struct {
         const char *name;
         void (*call)(void);
-    } calls[] = {{"step", call_step}, {"record", call_record}, {"judge", call_judge}, {"read_number", call_number}, {"read_settings", call_settings}, {"begin_log", call_begin}, {"clear", call_clear}};
-    size_t most[7] = {0}, nothing = painted(call_nothing), k, took;
+    } calls[] = {{"step", call_step}, {"record", call_record}, {"judge", call_judge}, {"read_number", call_number}, {"read_settings", call_settings},
+        {"read_message", call_read}, {"write_message", call_write}, {"begin_log", call_begin}, {"clear", call_clear}};
+    size_t most[CALLS] = {0}, nothing = painted(call_nothing), k, took;
     long round;
     call_begin();
     for (round = 0; round < ROUNDS; round++) {
         fresh();
-        for (k = 0; k < 5; k++) {
+        for (k = 0; k < OFTEN; k++) {
             if (k == 2 && round % 64) continue; /* the log is judged while it grows */
             took = painted(calls[k].call);
             if (took > most[k]) most[k] = took;
         }
         if (round % 200 == 0)
-            for (k = 5; k < 7; k++) {
+            for (k = OFTEN; k < CALLS; k++) {
                 took = painted(calls[k].call);
                 if (took > most[k]) most[k] = took;
             }
     }
-    for (k = 0; k < 7; k++) report(calls[k].name, most[k], nothing);
+    for (k = 0; k < CALLS; k++) report(calls[k].name, most[k], nothing);
     return failed;
 }
