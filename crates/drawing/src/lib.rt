@@ -1,5 +1,5 @@
 // Pictures as SVG, written element by element to a descriptor. A class names how an element looks; the style at the picture's head says what that is.
-use commands::fields::octet_at;
+use fields::octet_at;
 use saying::write_long;
 use saying::write_text;
 use text::words::part;

@@ -1,9 +1,9 @@
-// The word `probe`: commands on standard input, a line each, answered by a line each. A further command is a module of the crate
-// `commands`, or a crate of its own, with a function of the same shape as `answer_read`, and a test here.
-use commands::malformed;
-use commands::read_command::answer_read;
-use commands::write_command::answer_write;
+// The word `probe`: commands on standard input, a line each, answered by a line each. A further command is a crate of its own with a function of the same
+// shape as `answer_read`, and a test here.
+use fields::malformed;
 use judge_command::answer_judge;
+use message_command::read_command::answer_read;
+use message_command::write_command::answer_write;
 use record_command::answer_record;
 use settings_words::settings_command::answer_settings;
 use step_command::answer_step;

@@ -1,6 +1,6 @@
 // The command `judge` of the probe: settings and a log's bytes, the verdict in numbers.
-use commands::fields::octets_word;
-use commands::malformed;
+use fields::malformed;
+use fields::words::octets_word;
 use saying::say;
 use saying::say_decimal;
 use step_command::own_word;

@@ -1,5 +1,5 @@
 // Why a message can't be read, with the octet that is at fault, within a line.
-use commands::fields::octet_at;
+use fields::octet_at;
 use message::Fault;
 use saying::describe::tell_element;
 use saying::describe::tell_places;

@@ -1,10 +1,10 @@
 // The command `record` of the probe: a log's bytes and an entry in numbers, the log's bytes afterwards.
 ghost use Prim.Native.Nat.{_≤_};
 ghost use lib.ListN.{length};
-use commands::fields::number_word;
-use commands::fields::octets_word;
-use commands::fields::reference_word;
-use commands::malformed;
+use fields::malformed;
+use fields::words::number_word;
+use fields::words::octets_word;
+use fields::words::reference_word;
 use log::Reference;
 use recorder::Claims;
 use recorder::Happened;

@@ -1,6 +1,6 @@
 // The command `settings OCTETS` of the probe: what reading a settings file comes to, in numbers.
-use commands::fields::octets_word;
-use commands::malformed;
+use fields::malformed;
+use fields::words::octets_word;
 use saying::say;
 use saying::say_decimal;
 use saying::say_hex;

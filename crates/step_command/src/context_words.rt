@@ -2,11 +2,11 @@
 ghost use Prim.Native.Nat.{_≤_};
 use codes::attributes::Parameters;
 use codes::state::State;
-use commands::fields::reference_word;
-use commands::fields::small_word;
 use context::Context;
 use context::Timers;
 use context::state_number;
+use fields::words::reference_word;
+use fields::words::small_word;
 use message::Reference;
 use saying::say;
 use saying::say_hex;

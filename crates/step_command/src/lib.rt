@@ -3,11 +3,6 @@ ghost use Prim.Native.Nat.{_≤_};
 
 mod context_words;
 
-use commands::fields::number_word;
-use commands::fields::octets_word;
-use commands::fields::reference_word;
-use commands::fields::small_word;
-use commands::malformed;
 use context::Context;
 use context_words::Lent;
 use context_words::StateTold;
@@ -15,6 +10,11 @@ use context_words::lent_context;
 use context_words::say_context;
 use context_words::say_lent;
 use context_words::state_told;
+use fields::malformed;
+use fields::words::number_word;
+use fields::words::octets_word;
+use fields::words::reference_word;
+use fields::words::small_word;
 use message::Classmark;
 use radio::Happened;
 use radio::Stepped;

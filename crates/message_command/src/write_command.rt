@@ -1,13 +1,13 @@
 // The command `write BUFLEN FLAG TV KIND FIELDS..` of the probe: what writing a message comes to, in numbers and octets.
 ghost use Prim.Native.Nat.{_≤_};
-use crate::fields::half_word;
-use crate::fields::number_word;
-use crate::fields::octet_at;
-use crate::fields::octets_word;
-use crate::fields::reference_word;
-use crate::fields::small_word;
-use crate::malformed;
 use element::Run;
+use fields::malformed;
+use fields::octet_at;
+use fields::words::half_word;
+use fields::words::number_word;
+use fields::words::octets_word;
+use fields::words::reference_word;
+use fields::words::small_word;
 use message::Classmark;
 use message::Identity;
 use message::Message;

@@ -141,11 +141,3 @@ pub fn reference_word(line: &[u8], words: Words) -> ReferenceWord {
         words: next,
     }
 }
-
-// The octet at a place, and 0 past the end.
-pub fn octet_at(octets: &[u8], at: usize) -> u8 {
-    if octets.len() <= at {
-        return 0;
-    }
-    octets[at]
-}

@@ -1,9 +1,9 @@
 // The command `read OCTETS` of the probe: what reading a message comes to, in numbers.
-use crate::fields::octets_word;
-use crate::malformed;
 use element::Run;
+use fields::fault_number;
+use fields::malformed;
+use fields::words::octets_word;
 use message::Classmark;
-use message::Fault;
 use message::Half;
 use message::Identity;
 use message::Message;
@@ -16,18 +16,6 @@ use text::output::Output;
 use text::words::Words;
 use text::words::finished;
 use text::words::part;
-
-// The number that document 01 gives a fault.
-pub fn fault_number(fault: Fault) -> u8 {
-    match fault {
-        Fault::TooShort => 1,
-        Fault::Discriminator => 2,
-        Fault::UnknownType => 3,
-        Fault::CutShort => 4,
-        Fault::WrongLength(_) => 4,
-        Fault::MustBeKnown(_, _) => 4,
-    }
-}
 
 pub fn answer_read(
     line: &[u8],
