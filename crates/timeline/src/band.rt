@@ -1,4 +1,5 @@
 // Bands: the time axis is broken into as many as the log takes, one below the other, each with the list of its entries.
+use crate::lanes::draw_lanes;
 use crate::list::below;
 use crate::list::draw_list_head;
 use crate::list::draw_row;
@@ -13,7 +14,6 @@ use crate::place::in_new_band;
 use crate::place::next_place;
 use crate::place::onward;
 use crate::place::sum;
-use crate::segment::draw_lanes;
 use crate::segment::draw_segment;
 use crate::segment::draw_tail;
 use drawing::begin_text;

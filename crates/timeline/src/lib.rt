@@ -2,6 +2,7 @@
 // words. It shows what the log claims and judges nothing.
 mod band;
 mod head;
+mod lanes;
 mod list;
 mod mark;
 mod place;

@@ -1,9 +1,9 @@
 // An entry's mark: its number above the lanes, a line from there to its time, the way from state to state, and a sign for a message or a
 // timer's expiry.
+use crate::lanes::lane;
 use crate::place::Place;
 use crate::place::less;
 use crate::place::sum;
-use crate::segment::lane;
 use drawing::attribute;
 use drawing::begin_rectangle;
 use drawing::finish;

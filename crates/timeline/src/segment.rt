@@ -1,7 +1,6 @@
 // The time from one entry to the next: the bar of the state, the marks of the time axis, the window in which the joining timer ends, and the
 // strip that stands for a long time without an entry.
-use crate::place::LEFT;
-use crate::place::MARGIN;
+use crate::lanes::lane;
 use crate::place::Place;
 use crate::place::RIGHT;
 use crate::place::STRIP;
@@ -27,16 +26,6 @@ use log_words::entry::write_clock;
 use log_words::entry::write_seconds;
 use saying::write_long;
 use saying::write_text;
-
-// From a band's top to its lanes, and the height of a lane.
-const LANES: u64 = 64;
-
-const LANE: u64 = 18;
-
-// The top of a state's lane; that of 8 is where the time axis stands.
-pub(crate) fn lane(y: u64, state: u8) -> u64 {
-    sum(y, LANES + LANE * (state as u64))
-}
 
 // ---- the bar
 
@@ -233,64 +222,4 @@ pub(crate) fn draw_tail(descriptor: i32, view: View, y: u64, place: Place) {
     );
     attribute(descriptor, b" data-state=\"", place.state as u64);
     finish(descriptor);
-}
-
-// ---- the lanes themselves
-
-pub(crate) fn draw_lanes(descriptor: i32, y: u64) {
-    draw_lane(descriptor, b"dim", y, 0, b"U0 idle", b"NULL");
-    draw_lane(
-        descriptor,
-        b"bright",
-        y,
-        1,
-        b"U0.p waiting",
-        b"MM CONNECTION PENDING",
-    );
-    draw_lane(descriptor, b"dim", y, 2, b"U1 calling", b"CALL INITIATED");
-    draw_lane(
-        descriptor,
-        b"bright",
-        y,
-        3,
-        b"U2 own call on",
-        b"CALL ACTIVE",
-    );
-    draw_lane(descriptor, b"dim", y, 4, b"U3 notified", b"CALL PRESENT");
-    draw_lane(
-        descriptor,
-        b"bright",
-        y,
-        5,
-        b"U4 joining",
-        b"CONNECTION REQUESTED",
-    );
-    draw_lane(
-        descriptor,
-        b"dim",
-        y,
-        6,
-        b"U5 ending",
-        b"TERMINATION REQUESTED",
-    );
-    draw_lane(
-        descriptor,
-        b"bright",
-        y,
-        7,
-        b"U6 receiving",
-        b"RECEIVE MODE ACTIVE",
-    );
-    line(descriptor, b"axis", LEFT, lane(y, 8), RIGHT, lane(y, 8));
-}
-
-fn draw_lane(descriptor: i32, class: &[u8], y: u64, state: u8, plain: &[u8], name: &[u8]) {
-    let top = lane(y, state);
-    rectangle(descriptor, class, MARGIN, top, RIGHT - MARGIN, LANE);
-    begin_text(descriptor, b"t", 32, sum(top, 13));
-    write_text(descriptor, plain);
-    write_text(descriptor, b" <tspan class=\"s\">");
-    write_text(descriptor, name);
-    write_text(descriptor, b"</tspan>");
-    end_text(descriptor);
 }
