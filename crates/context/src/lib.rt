@@ -171,18 +171,23 @@ fn is_cleared(context: Context) -> bool
     none_set & (none_runs & ((context.value == 0) & zero))
 }
 
-// Whether the context is one that a call can be in.
+// Whether the context is one that a call can be in. What U0 alone asks is looked at in U0 alone.
 pub fn is_fit(context: Context) -> bool
     ensures { λ r. ⌜ r ≡ fitOf context ⌝ }
 {
     let state = context.state;
     let parameters = context.parameters;
     let timers = context.timers;
-    let number = state_number(state);
-    let consistent = is_consistent(state, parameters);
-    let cleared = is_cleared(context);
-    let timed = timers_fit(state, timers);
-    consistent & ((context.value <= 6) & ((!(number == 0) | cleared) & timed))
+    if !is_consistent(state, parameters) {
+        return false;
+    }
+    if 6 < context.value {
+        return false;
+    }
+    if state_number(state) == 0 {
+        return is_cleared(context) & timers_fit(state, timers);
+    }
+    timers_fit(state, timers)
 }
 
 // The number of the timer that runs: 1 T_MM-est, 2 T_term, 3 T_conn req, 4 T_no channel, 0 none.
