@@ -2,3 +2,4 @@ pub mod States
 pub mod Whole
 pub mod Fit
 pub mod Coincide
+pub mod Consistent

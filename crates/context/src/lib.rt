@@ -1,5 +1,6 @@
 // The context of a call: its state, parameters, timers, transaction value and reference; which contexts are fit, and what a state starts with.
 ghost use mathlib.Core.Path.{_≡_};
+ghost use mathlib.Core.Bool.{false};
 ghost use Rattle.context.specs.States.{numberOf, flagOf};
 ghost use Rattle.context.specs.Context.{startRow, cleared};
 ghost use Rattle.context.specs.Fit.{consistent, timersFit, isCleared, fitOf};
@@ -129,15 +130,22 @@ pub fn expected_flag(state: State) -> bool
 pub fn is_consistent(state: State, parameters: Parameters) -> bool
     ensures { λ r. ⌜ r ≡ consistent state parameters ⌝ }
 {
+    fits_state(state, parameters.orig, parameters.comm)
+}
+
+// The same of the two parameters that a state asks about. They come one by one, since four that are passed as one are first put together.
+fn fits_state(state: State, orig: bool, comm: bool) -> bool
+    ensures { λ r. ⌜ r ≡ consistent state (record { orig = orig; comm = comm; datt = false; uatt = false }) ⌝ }
+{
     match state {
-        State::U0 => !parameters.comm,
+        State::U0 => !comm,
         State::U0p => true,
         State::U1 => true,
         State::U2 => true,
-        State::U3 => !parameters.orig & !parameters.comm,
-        State::U4 => !parameters.orig & !parameters.comm,
+        State::U3 => !orig & !comm,
+        State::U4 => !orig & !comm,
         State::U5 => true,
-        State::U6 => !parameters.orig & !parameters.comm,
+        State::U6 => !orig & !comm,
     }
 }
 
@@ -171,18 +179,22 @@ fn is_cleared(context: Context) -> bool
     none_set & (none_runs & ((context.value == 0) & zero))
 }
 
-// Whether the context is one that a call can be in.
+// Whether the context is one that a call can be in. What U0 alone asks is looked at in U0 alone.
 pub fn is_fit(context: Context) -> bool
     ensures { λ r. ⌜ r ≡ fitOf context ⌝ }
 {
     let state = context.state;
-    let parameters = context.parameters;
     let timers = context.timers;
-    let number = state_number(state);
-    let consistent = is_consistent(state, parameters);
-    let cleared = is_cleared(context);
-    let timed = timers_fit(state, timers);
-    consistent & ((context.value <= 6) & ((!(number == 0) | cleared) & timed))
+    if !fits_state(state, context.parameters.orig, context.parameters.comm) {
+        return false;
+    }
+    if 6 < context.value {
+        return false;
+    }
+    if state_number(state) == 0 {
+        return is_cleared(context) & timers_fit(state, timers);
+    }
+    timers_fit(state, timers)
 }
 
 // The number of the timer that runs: 1 T_MM-est, 2 T_term, 3 T_conn req, 4 T_no channel, 0 none.

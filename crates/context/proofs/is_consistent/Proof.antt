@@ -1,27 +1,13 @@
--- `is_consistent` meets its contract, state by state.
+-- `is_consistent` meets its contract: a state asks about two of the parameters.
 use borrow.Author.Needs.{needs}
-use Rattle.context.specs.Fit.{consistent}
+use mathlib.Core.Path.{sym, _∙_}
+use Rattle.context.proofs.Consistent.{by-two}
 use Rattle.context.proofs.is_consistent.Statement.{statement}
 use Rattle.context.proofs.is_consistent.Tie as tie
 
 pub is-consistent-spec : {M : Type 1} → statement M
-unfolding consistent
 is-consistent-spec =
     tie.close
     (tie.spec
-    (λ c. search needs)
-    (λ c. search needs)
-    (λ c. search needs)
-    (λ c. search needs)
-    (λ c. search needs)
-    (λ c. search needs)
-    (λ c. search needs)
-    (λ c. search needs)
-    (λ c. rw (c .before .enum-told .given .1))
-    (λ c. rw (c .enum-told2 .given .1))
-    (λ c. rw (c .enum-told3 .given .1))
-    (λ c. rw (c .enum-told4 .given .1))
-    (λ c. rw (c .before .before .enum-told5 .given .1))
-    (λ c. rw (c .before .before .enum-told6 .given .1))
-    (λ c. rw (c .enum-told7 .given .1))
-    (λ c. rw (c .before .before .enum-told8 .given .1)))
+    (λ c κs. search needs)
+    (λ c. c .fits-state .ensures ∙ sym (by-two (c .before .args .state) (c .before .args .parameters))))
