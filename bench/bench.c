@@ -7,7 +7,7 @@
 #include "logs.h"
 #include "stack.h"
 
-enum { ROUNDS = 21 };
+enum { ROUNDS = 101 };
 
 static struct logs logs, spoilt, cut;
 static volatile size_t sink;
@@ -306,6 +306,6 @@ int main(int argc, char **argv)
     }
     printf("both answer alike on every log, step and number\n");
     size_t stack = show_stack(&logs);
-    show_all(argc > 1 ? atof(argv[1]) : 0.02);
+    show_all(argc > 1 ? atof(argv[1]) : 0.004);
     return stack > 4096;
 }
