@@ -2,14 +2,11 @@
  * The caller's own frame is counted with it. Fails where one takes more than 2,048 octets. */
 #include <stdio.h>
 #include <stdlib.h>
-#include <string.h>
-#include <ucontext.h>
 #include "heidezirkel.h"
+#include "painted.h"
 
-enum { STACK = 65536, MOST = 2048, ROUNDS = 20000, OFTEN = 7, CALLS = 9 };
+enum { MOST = 2048, ROUNDS = 20000, OFTEN = 7, CALLS = 9 };
 
-static unsigned char stack[STACK];
-static ucontext_t here, there;
 static uint8_t context[16], settings[13], octets[256], reply[255], log_bytes[4096];
 static size_t used;
 static struct heidezirkel_event event;
@@ -48,20 +45,6 @@ static void call_settings(void) {
 static struct heidezirkel_reading reading;
 static void call_read(void) { reading = heidezirkel_read_message(octets, random_below(252)); }
 static void call_write(void) { (void)heidezirkel_write_message(reading.message, octets, sizeof octets, reply, sizeof reply); }
-
-/* How much of the painted stack a call changed. */
-static size_t painted(void (*call)(void)) {
-    size_t i = 0;
-    memset(stack, 0xA5, STACK);
-    getcontext(&there);
-    there.uc_stack.ss_sp = stack;
-    there.uc_stack.ss_size = STACK;
-    there.uc_link = &here;
-    makecontext(&there, call, 0);
-    swapcontext(&here, &there);
-    while (i < STACK && stack[i] == 0xA5) i++;
-    return STACK - i;
-}
 
 static int failed;
 
