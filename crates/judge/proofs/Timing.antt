@@ -1,11 +1,12 @@
 -- The time of an entry: the judge's tests by the age of the running timer, one return of the code at a time.
 use Prim.Native.Nat.{ℕ, _+_, _-_, _≤_, _<_}
-use mathlib.Core.Path.{_≡_}
-use mathlib.Core.Bool.{Bool, true, false}
+use mathlib.Core.Path.{_≡_, sym, subst, _∙_}
+use mathlib.Core.Bool.{Bool, true, false, cond}
 use mathlib.Core.List.{List}
 use native.Mathlib.Omega.{arith}
-use lib.Dec.{eqb}
-use borrow.Author.Tests.{ne-eqb, lt-ltb, le-ltb}
+use lib.Dec.{eqb, ltb}
+use borrow.Author.Tests.{ne-eqb}
+use Rattle.octets.proofs.Choice.{at-cond}
 use Rattle.codes.specs.Attributes.{weighs}
 use Rattle.context.specs.declared.Context.{Context}
 use Rattle.context.specs.Context.{cleared}
@@ -14,9 +15,10 @@ use Rattle.log_number.specs.Number.{numberAt}
 use Rattle.log_number.specs.declared.Number.the-variants.{Value, Unreadable as NoNumber}
 use Rattle.judge.specs.declared.Begun.the-variants.{At, NoVersion}
 use Rattle.judge.specs.declared.Track.{Track}
+use Rattle.judge.specs.declared.Turned.{Turned}
 use Rattle.judge.specs.declared.Turned.the-variants.{Onward, Stuck}
 use Rattle.judge.specs.declared.Why.the-variants.{OutOfTime, NoTimerLeft}
-use Rattle.judge.specs.Turn.{untimelyAt, leastLeft, greatestLeft, startedAt, inTimeOf, begunOf}
+use Rattle.judge.specs.Turn.{untimelyAt, leastLeft, greatestLeft, startedAt, leftWith, inTimeOf, begunOf, Carries}
 
 pub weight-most : (b : Bool) (w r : ℕ) → r ≡ weighs b w → r ≤ w
 unfolding weighs
@@ -24,27 +26,49 @@ weight-most true w r e = omega arith
 weight-most false w r e = omega arith
 
 -- The three ways of an entry's time.
-module _ (t : Track) (delta event : ℕ) (after : Context) (place before expiry : ℕ) (b : before ≡ runs (t .context)) (e : expiry ≡ expiryOf event) where
+module _ (t : Track) (delta event : ℕ) (after : Context) (place before later : ℕ) (b : before ≡ runs (t .context)) (l : later ≡ runs after) where
   abbrev age : ℕ
   age = t .time + delta - t .started
 
-  abbrev ends : Bool
-  ends = eqb expiry before
+  module _ (started : ℕ) (p : started ≡ startedAt before later (t .started) (t .time + delta)) (v : Turned) where
+    pub none-runs : before ≡ 0 → v ≡ leftWith t (t .least) (t .greatest) (t .time + delta) started after place → v ≡ inTimeOf t delta event after place
+    unfolding inTimeOf untimelyAt leastLeft greatestLeft
+    none-runs z k = k ∙ rw (← b, ← l, ← p, z)
 
-  pub is-late : untimelyAt before age ends ≡ true → Stuck OutOfTime ≡ inTimeOf t delta event after place
+    module _ (expiry : ℕ) (e : expiry ≡ expiryOf event) where
+      abbrev ends : Bool
+      ends = eqb expiry before
+
+      pub goes-on : untimelyAt before age ends ≡ false → (least greatest : ℕ) → least ≡ leastLeft before age (t .least) → greatest ≡ greatestLeft before age ends (t .greatest)
+          → v ≡ leftWith t least greatest (t .time + delta) started after place → v ≡ inTimeOf t delta event after place
+      unfolding inTimeOf
+      goes-on u least greatest m g k = k ∙ rw (← b, ← l, ← e, u, ← m, ← g, ← p)
+
+  pub is-late : (expiry : ℕ) → expiry ≡ expiryOf event → untimelyAt before age (eqb expiry before) ≡ true → Stuck OutOfTime ≡ inTimeOf t delta event after place
   unfolding inTimeOf
-  is-late u = rw (← b, ← e, u)
+  is-late expiry e u = rw (← b, ← e, u)
 
-  module _ (u : untimelyAt before age ends ≡ false) (least greatest : ℕ) (l : least ≡ leastLeft before age (t .least)) (g : greatest ≡ greatestLeft before age ends (t .greatest)) where
-    pub none-left : greatest < least → Stuck NoTimerLeft ≡ inTimeOf t delta event after place
-    unfolding inTimeOf
-    none-left h = rw (← b, ← e, u, ← l, ← g, lt-ltb greatest least h)
+  left-carried : (least greatest time started : ℕ) → Carries (leftWith t least greatest time started after place) later
+  left-carried least greatest time started = go (ltb greatest least)
+    where
+      go : (b : Bool) → Carries (cond b (Stuck NoTimerLeft)
+          (Onward (record { place = place; entries = t .entries + 1; context = after; time = time; started = started; least = least; greatest = greatest }))) later
+      go true = tt
+      go false = l
 
-    pub goes-on : least ≤ greatest → (later started : ℕ) → later ≡ runs after → started ≡ startedAt before later (t .started) (t .time + delta)
-        → Onward (record { place = place; entries = t .entries + 1; context = after; time = t .time + delta; started = started; least = least; greatest = greatest })
-        ≡ inTimeOf t delta event after place
-    unfolding inTimeOf
-    goes-on h later started p q = rw (← b, ← e, u, ← l, ← g, le-ltb greatest least h, ← p, ← q)
+  -- What is carried on is the timer that runs behind the entry.
+  pub carried : (v : Turned) → v ≡ inTimeOf t delta event after place → Carries v later
+  unfolding inTimeOf
+  carried v q =
+      let running : ℕ = runs (t .context) in
+      let expires : Bool = eqb (expiryOf event) running in
+      subst Carried (sym q)
+      (at-cond Carried (untimelyAt running age expires) _ _ (λ u. tt)
+      (λ u. left-carried (leastLeft running age (t .least)) (greatestLeft running age expires (t .greatest)) (t .time + delta)
+      (startedAt running (runs after) (t .started) (t .time + delta))))
+    where
+      Carried : Turned → Type 0
+      Carried v = Carries v later
 
 -- The three ways of the beginning.
 module _ (s : List ℕ) where

@@ -8,8 +8,11 @@ use lib.Dec.{eqb}
 use lib.ListN.{length}
 use borrow.Author.Tests.{le-ltb, lt-ltb, eqb-true}
 use Rattle.context.specs.Context.{cleared}
-use Rattle.context.specs.Running.{joiningLeast, joiningGreatest}
+use Rattle.context.specs.Fit.{fitOf}
+use Rattle.context.specs.Running.{runs, joiningLeast, joiningGreatest}
+use Rattle.context.proofs.Fit.{cleared-fit}
 use Rattle.reply.specs.declared.Own.{Own}
+use Rattle.radio.proofs.Answers.{step-keeps-fit}
 use Rattle.log_number.specs.Number.{greatest, numberAt, onNumber}
 use Rattle.log_number.specs.declared.Number.{Number}
 use Rattle.log_number.specs.declared.Number.the-variants.{Value, Unreadable as NoNumber}
@@ -17,7 +20,7 @@ use Rattle.log_number.proofs.Reading.{Moves, number-moves}
 use Rattle.log.specs.declared.Entry.{Entry}
 use Rattle.log.specs.declared.Found.{Found}
 use Rattle.log.specs.declared.Found.the-variants.{Read, Unreadable}
-use Rattle.log.specs.Reading.{entryAt, meant}
+use Rattle.log.specs.Reading.{entryAt, octetsOf, meant}
 use Rattle.log.proofs.Progress.{EntryRight, Sound, entry-right}
 use Rattle.table.specs.Steps.{Steps}
 use Rattle.table.specs.Judge.{judge, judgeFrom}
@@ -33,8 +36,29 @@ use Rattle.judge.specs.declared.Begun.the-variants.{At, NoVersion}
 use Rattle.judge.specs.declared.Turned.{Turned}
 use Rattle.judge.specs.declared.Turned.the-variants.{Onward, Torn, Stuck, Astray}
 use Rattle.judge.specs.declared.Why.{Why}
-use Rattle.judge.specs.Turn.{onFound, explainedOf, astray, turnOf, begunOf}
+use Rattle.judge.specs.Turn.{onFound, eventAt, explainedOf, turnOf, begunOf, OnTrack}
+use Rattle.judge.proofs.Explaining.{not-astray}
 use Rattle.judge.proofs.Mirror.{momentOf, intervalOf, Mirrors, explain-mirrors}
+
+-- No timer runs where a walk begins.
+pub begun-idle : (s : List ℕ) (t : Track) → begunOf s ≡ At t → 0 ≡ runs (t .context)
+unfolding begunOf runs cleared
+begun-idle s t q = subst Idle q (by-number (numberAt s 0))
+  where
+    Idle : Begun → Type 0
+    Idle (At t) = 0 ≡ runs (t .context)
+    Idle NoVersion = Unit
+
+    by-number : (n : Number) → Idle (onNumber n NoVersion λ version place.
+        cond (eqb version 1)
+        (At (record { place = place; entries = 0; context = cleared; time = 0; started = 0; least = joiningLeast; greatest = joiningGreatest }))
+        NoVersion)
+    by-number NoNumber = tt
+    by-number (Value version place) = by-version (eqb version 1)
+      where
+        by-version : (b : Bool) → Idle (cond b (At (record { place = place; entries = 0; context = cleared; time = 0; started = 0; least = joiningLeast; greatest = joiningGreatest })) NoVersion)
+        by-version true = refl
+        by-version false = tt
 
 module _ (own : Own) (identity s : List ℕ) where
   abbrev 𝓢 : Steps
@@ -46,6 +70,7 @@ module _ (own : Own) (identity s : List ℕ) where
     pub ordered : t .started ≤ t .time
     pub timed : t .time ≤ 86400000 * t .place
     pub counted : t .entries ≤ t .place
+    pub fit : fitOf (t .context) ≡ true
     pub same : judgedOf (told (judgeFrom 𝓢 (oneTimer joining) (momentOf own identity t) (intervalOf t, true) (t .entries) (entriesAt 1 own identity s (t .place))))
         ≡ judgeOf own identity s
 
@@ -79,6 +104,7 @@ module _ (own : Own) (identity s : List ℕ) where
                 ordered = omega arith;
                 timed = omega arith;
                 counted = omega arith;
+                fit = cleared-fit;
                 same = rw (le-ltb 65536 (length s) h, o, q, v);
               }
           by-version version place q m false e = rw (le-ltb 65536 (length s) h, o, q, e)
@@ -107,14 +133,12 @@ module _ (own : Own) (identity s : List ℕ) where
       Turns (Stuck why) = Unexplained (t .entries + 1) ≡ judgeOf own identity s
       Turns Astray = ⊥
 
-      not-astray : astray (t .time) (t .started) (t .entries) ≡ false
-      unfolding astray
-      not-astray =
-          rw (
-            le-ltb 5662310400000 (t .time) (omega (arith, l .timed, l .short, l .inside)),
-            le-ltb (t .time) (t .started) (l .ordered),
-            le-ltb 65536 (t .entries) (omega (arith, l .counted, l .short, l .inside)),
-          )
+      pub loop-on-track : OnTrack t
+      loop-on-track = record {
+        timely = omega (arith, l .timed, l .short, l .inside);
+        ordered = l .ordered;
+        few = omega (arith, l .counted, l .short, l .inside);
+      }
 
       torn : (place : ℕ) → entryAt s (t .place) ≡ Unreadable place → UnreadableAt (t .entries + 1) ≡ judgeOf own identity s
       torn place q =
@@ -135,6 +159,7 @@ module _ (own : Own) (identity s : List ℕ) where
                 = turn-time 𝓢 (oneTimer joining) (momentOf own identity t) (intervalOf t, true) (entryOf 1 own identity (meant s e)) (momentOf own identity u) (intervalOf u, true) (g .turns) in
                 omega (arith, l .timed, g .place-is, sound .on, sound .delta);
             counted = omega (arith, l .counted, g .place-is, g .entries-is, sound .on);
+            fit = rw (g .context-is) (step-keeps-fit own identity 255 (t .context) (eventAt e) (octetsOf s (e .carried .message)) (l .fit));
             same = rw (g .place-is, g .entries-is)
                 (rw (walk-onward 𝓢 (oneTimer joining) (reader 1 own identity) s (t .place) (momentOf own identity t) (intervalOf t, true) (t .entries) h
                 (entryOf 1 own identity (meant s e)) place (ap (readOf 1 own identity s) q) _ _ (g .turns)) at (l .same));
@@ -149,7 +174,7 @@ module _ (own : Own) (identity s : List ℕ) where
 
       pub turn-right : Turns (turnOf own identity s t)
       unfolding turnOf
-      turn-right = rw not-astray (go (entryAt s (t .place)) refl)
+      turn-right = rw (not-astray t loop-on-track) (go (entryAt s (t .place)) refl)
         where
           go : (f : Found) → entryAt s (t .place) ≡ f → Turns (onFound f Torn (explainedOf own identity s t))
           go (Unreadable place) q = torn place q

@@ -6,7 +6,7 @@ use mathlib.Core.Bool.{Bool, true, false, cond, not, _&&_, _||_}
 use native.Mathlib.Omega.{arith}
 use lib.Dec.{eqb, leb, ltb}
 use lib.ListN.{length}
-use borrow.Author.Tests.{ltb-false, eqb-false, eqb-true, not-false, le-leb}
+use borrow.Author.Tests.{ltb-false, eqb-false, eqb-true, not-false, le-leb, le-ltb}
 use Rattle.octets.proofs.Choice.{never}
 use Rattle.context.specs.declared.Context.{Context}
 use Rattle.context.specs.Fit.{fitOf}
@@ -58,6 +58,25 @@ in-range x key identity h octets room e =
   where
     positive : (n : ℕ) → (n ≡ 0 → ⊥) → 1 ≤ n
     positive n h = omega arith
+
+-- The other way round: a step that passes each test is not refused.
+pub passed : (x : Context) (key identity : ℕ) (h : Happened) (octets room : ℕ) → fitOf x ≡ true → 255 ≤ room → eqb (h .number) 18 && ltb 251 octets ≡ false
+    → outOfRange key identity h ≡ false → refusalOf x key identity h octets room ≡ 0
+unfolding refusalOf
+passed x key identity h octets room f r o g = rw (f, le-ltb room 255 r, o, g)
+
+-- A refusal's number is over 3.
+pub refused-over : (x : Context) (key identity : ℕ) (h : Happened) (octets room : ℕ) → (refusalOf x key identity h octets room ≡ 0 → ⊥)
+    → 3 < refusalOf x key identity h octets room
+unfolding refusalOf
+refused-over x key identity h octets room = go (not (fitOf x)) (ltb room 255) (eqb (h .number) 18 && ltb 251 octets) (outOfRange key identity h)
+  where
+    go : (a b c d : Bool) → (_≡_ {A = ℕ} (cond a 7 (cond b 5 (cond c 6 (cond d 4 0)))) 0 → ⊥) → 3 < cond a 7 (cond b 5 (cond c 6 (cond d 4 0)))
+    go true b c d n = omega arith
+    go false true c d n = omega arith
+    go false false true d n = omega arith
+    go false false false true n = omega arith
+    go false false false false n = absurd (n refl)
 
 -- The transaction value of an event that carries one is at most 6.
 pub value-most : (key identity : ℕ) (h : Happened) → outOfRange key identity h ≡ false → (eqb (h .number) 1 || (eqb (h .number) 2 || eqb (h .number) 10)) ≡ true

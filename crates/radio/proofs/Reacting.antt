@@ -48,7 +48,7 @@ use Rattle.radio.specs.declared.Outcome.{Outcome}
 use Rattle.radio.specs.declared.Stepped.{Stepped}
 use Rattle.radio.specs.declared.Told.{Told}
 use Rattle.radio.specs.declared.Told.the-variants.{Is, NoEvent}
-use Rattle.radio.specs.Step.{events, eventOf, onEvent, reactedTo, outOfRange, Reaction, refused, reacted, stepOf, refusalOf, shown}
+use Rattle.radio.specs.Step.{events, eventOf, onEvent, reactedTo, outOfRange, Reaction, refused, reacted, stepOf, takenOf, refusalOf, shown}
 use Rattle.radio.proofs.Range.{InRange, in-range, value-most}
 
 -- The three ways of `due_to`.
@@ -184,6 +184,14 @@ choose false false true d x z = refl
 choose false false false true x z = refl
 choose false false false false x z = refl
 
+pub step-by : (own : Own) (identity : List ℕ) (room : ℕ) (x : Context) (h : Happened) (s : List ℕ)
+    → stepOf own identity room x h s
+    ≡ (let n : ℕ = refusalOf x (own .key) (length identity) h (length s) room in cond (eqb n 0) (reacted own identity s (reactedTo identity x h s)) (refused n x))
+unfolding stepOf refusalOf
+step-by own identity room x h s =
+    choose (not (fitOf x)) (ltb room 255) (eqb (h .number) 18 && ltb 251 (length s)) (outOfRange (own .key) (length identity) h) x
+    (reacted own identity s (reactedTo identity x h s))
+
 module _ (own : Own) (identity d : List ℕ) (x : Context) (h : Happened) (s : List ℕ) where
   abbrev why : ℕ
   why = refusalOf x (own .key) (length identity) h (length s) (length d)
@@ -191,11 +199,16 @@ module _ (own : Own) (identity d : List ℕ) (x : Context) (h : Happened) (s : L
   abbrev all : Reaction
   all = stepOf own identity (length d) x h s
 
-  pub step-by : all ≡ cond (eqb why 0) (reacted own identity s (reactedTo identity x h s)) (refused why x)
-  unfolding stepOf refusalOf
-  step-by =
-      choose (not (fitOf x)) (ltb (length d) 255) (eqb (h .number) 18 && ltb 251 (length s)) (outOfRange (own .key) (length identity) h) x
-      (reacted own identity s (reactedTo identity x h s))
+  -- The step without its tests, as the code goes it.
+  abbrev pub Taking : Stepped → List ℕ → Type 0
+  Taking r after =
+      (r ≡ shown (takenOf own identity (length d) x h s)) × (after ≡ sets d 0 (takenOf own identity (length d) x h s .reply))
+
+  pub takes : (t : Taken) → t ≡ reactedTo identity x h s → (n : ℕ) (after : List ℕ)
+      → (n ≡ length (putOf (length d) own identity s (t .context) (t .sends))) × (after ≡ sets d 0 (putOf (length d) own identity s (t .context) (t .sends)))
+      → Taking (record { context = t .context; outcome = record { answer = t .answer; actions = t .actions; count = n } }) after
+  unfolding takenOf
+  takes t p n after w = rw (← p) (rw (w .0), w .1)
 
   -- The two ways of the step, as the code goes them.
   abbrev pub Stepping : Stepped → List ℕ → Type 0
@@ -203,16 +216,19 @@ module _ (own : Own) (identity d : List ℕ) (x : Context) (h : Happened) (s : L
 
   pub is-refused : (a : ℕ) → a ≡ why → (a ≡ 0 → ⊥) → Stepping (shown (refused a x)) d
   is-refused a e n =
-      let q : all ≡ refused a x = step-by ∙ rw (← e, ne-eqb a 0 n) in
+      let q : all ≡ refused a x = step-by own identity (length d) x h s ∙ rw (← e, ne-eqb a 0 n) in
       rw q (refl, refl)
 
-  pub is-taken : (a : ℕ) → a ≡ why → a ≡ 0 → (t : Taken) → t ≡ reactedTo identity x h s → (n : ℕ) (after : List ℕ)
-      → (n ≡ length (putOf (length d) own identity s (t .context) (t .sends))) × (after ≡ sets d 0 (putOf (length d) own identity s (t .context) (t .sends)))
-      → Stepping (record { context = t .context; outcome = record { answer = t .answer; actions = t .actions; count = n } }) after
-  is-taken a e z t p n after w =
-      let o : InRange x (own .key) (length identity) h (length s) (length d) = in-range x _ _ h _ _ (sym e ∙ z) in
-      let q : all ≡ reacted own identity s t = step-by ∙ rw (← e, z, ← p) in
-      let f : fitOf (t .context) ≡ true = rw p (react-fit identity x h s (own .key) (o .fit) (o .range)) in
+  -- Where no test refuses, the step without its tests is the step: the reply fits the buffer.
+  pub taken-is-step : why ≡ 0 → takenOf own identity (length d) x h s ≡ all
+  unfolding takenOf
+  taken-is-step z =
+      let o : InRange x (own .key) (length identity) h (length s) (length d) = in-range x _ _ h _ _ z in
+      let t : Taken = reactedTo identity x h s in
+      let f : fitOf (t .context) ≡ true = react-fit identity x h s (own .key) (o .fit) (o .range) in
       let l : putOf (length d) own identity s (t .context) (t .sends) ≡ replyOf own identity s (t .context) (t .sends)
       = put-is-reply (t .context) (leb-true _ _ (fit-value (t .context) f)) (length d) own identity s (t .sends) (o .big) (o .known) (o .least) (o .most) in
-      rw q (rw (w .0, l), w .1 ∙ ap (sets d 0) l)
+      rw l (sym (step-by own identity (length d) x h s ∙ rw z))
+
+  pub is-taken : (a : ℕ) → a ≡ why → a ≡ 0 → (r : Stepped) (after : List ℕ) → Taking r after → Stepping r after
+  is-taken a e z r after w = rw (taken-is-step (sym e ∙ z)) at w

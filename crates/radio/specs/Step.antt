@@ -31,7 +31,7 @@ use Rattle.call.specs.declared.Event.the-variants.{
 use Rattle.call.specs.declared.Stepped.{Stepped as Taken}
 use Rattle.call.specs.Step.{noStep, stepValue}
 use Rattle.reply.specs.declared.Own.{Own}
-use Rattle.reply.specs.Reply.{replyOf}
+use Rattle.reply.specs.Reply.{replyOf, putOf}
 use Rattle.radio.specs.declared.Happened.{Happened}
 use Rattle.radio.specs.declared.Outcome.{Outcome}
 use Rattle.radio.specs.declared.Stepped.{Stepped}
@@ -112,6 +112,17 @@ stepOf own identity room x h s =
     (cond (eqb (h .number) 18 && ltb 251 (length s)) (refused 6 x)
     (cond (outOfRange (own .key) (length identity) h) (refused 4 x)
     (reacted own identity s (reactedTo identity x h s)))))
+
+-- The step without its tests, for any arguments: the reply is what the lent buffer takes. Where no test refuses it is the step.
+unfoldable pub takenOf : Own → List ℕ → ℕ → Context → Happened → List ℕ → Reaction
+takenOf own identity room x h s =
+    let taken : Taken = reactedTo identity x h s in
+    record {
+      answer = taken .answer;
+      context = taken .context;
+      actions = taken .actions;
+      reply = putOf room own identity s (taken .context) (taken .sends);
+    }
 
 -- The refusal's number alone, 0 where the step is not refused.
 unfoldable pub refusalOf : Context → ℕ → ℕ → Happened → ℕ → ℕ → ℕ

@@ -4,7 +4,7 @@ ghost use mathlib.Core.Path.{_≡_};
 ghost use lib.ListN.{length};
 ghost use lib.Seq.{sets};
 ghost use Rattle.call.specs.Due.{settled};
-ghost use Rattle.radio.specs.Step.{eventOf, reactedTo, outOfRange, refusalOf, shown, stepOf};
+ghost use Rattle.radio.specs.Step.{eventOf, reactedTo, outOfRange, refusalOf, shown, stepOf, takenOf};
 use call::Due;
 use call::Event;
 use context::Context;
@@ -137,6 +137,33 @@ fn refused(context: Context, answer: u8) -> Stepped
     }
 }
 
+// The step without its tests, for a caller that has made them. The reply is written over the start of `reply`; of a message received `octets` are
+// the octets.
+pub fn take(
+    context: Context,
+    own: Own,
+    identity: &[u8],
+    happened: Happened,
+    octets: &[u8],
+    reply: &mut [u8],
+) -> Stepped
+    ensures { λ r. ⌜ (r ≡ shown (takenOf own (now (identity .entry)) (length (now (reply .entry))) context happened (now (octets .entry))))
+        × (now (reply .exit) ≡ sets (now (reply .entry)) 0 (takenOf own (now (identity .entry)) (length (now (reply .entry))) context happened (now (octets .entry)) .reply)) ⌝ }
+{
+    let taken = react(context, identity, happened, octets);
+    let after = taken.context;
+    let sends = taken.sends;
+    let count = reply::put(reply, own, identity, octets, after, sends);
+    Stepped {
+        context: after,
+        outcome: Outcome {
+            answer: taken.answer,
+            actions: taken.actions,
+            count,
+        },
+    }
+}
+
 // The step. The reply is written over the start of `reply`; of a message received `octets` are the octets.
 pub fn step(
     context: Context,
@@ -160,16 +187,5 @@ pub fn step(
     if answer != 0 {
         return refused(context, answer);
     }
-    let taken = react(context, identity, happened, octets);
-    let after = taken.context;
-    let sends = taken.sends;
-    let count = reply::put(reply, own, identity, octets, after, sends);
-    Stepped {
-        context: after,
-        outcome: Outcome {
-            answer: taken.answer,
-            actions: taken.actions,
-            count,
-        },
-    }
+    take(context, own, identity, happened, octets, reply)
 }

@@ -4,7 +4,7 @@ use mathlib.Core.Path.{_≡_, refl, sym}
 use mathlib.Core.Bool.{Bool, true, false, cond, not, _&&_, _||_}
 use mathlib.Core.List.{List}
 use lib.Dec.{eqb}
-use lib.ListN.{length, getD, replicate}
+use lib.ListN.{length, getD}
 use borrow.Author.Tests.{not-true, eqb-true, eqb-false, eq-eqb, ne-eqb}
 use Rattle.octets.proofs.Choice.{at-cond, never}
 use Rattle.codes.specs.declared.state.State.{State}
@@ -214,7 +214,7 @@ step-right own identity x e fit =
     ≡ cond (eqb (refusalOf x (own .key) (length identity) (e .happened) (length (e .octets)) 255) 0)
     (reacted own identity (e .octets) (reactedTo identity x (e .happened) (e .octets)))
     (refused (refusalOf x (own .key) (length identity) (e .happened) (length (e .octets)) 255) x)
-    = step-by own identity (replicate 255 0) x (e .happened) (e .octets) in
+    = step-by own identity 255 x (e .happened) (e .octets) in
     rw all (go (eqb (refusalOf x (own .key) (length identity) (e .happened) (length (e .octets)) 255) 0) (eqb (e .happened .number) 18))
   where
     go : (a m : Bool) → rightly (cond a (cond m 0 (setByTold x (eventOf (e .happened .number) (e .happened .value) (e .happened .reference)))) 0) (runs x)

@@ -1,0 +1,13 @@
+-- `left_with` meets its contract: no timer is left, or some are.
+use borrow.Author.Needs.{needs}
+use borrow.Author.Tests.{lt-ltb, le-ltb}
+use Rattle.judge.proofs.left_with.Statement.{statement}
+use Rattle.judge.proofs.left_with.Tie as tie
+
+pub left-with-spec : {M : Type 1} → statement M
+left-with-spec =
+    tie.close
+    (tie.spec
+    (λ c. rw (lt-ltb _ _ (c .if1 .taken)))
+    (λ c. search needs)
+    (λ c. rw (le-ltb _ _ (c .before .if1 .left))))
