@@ -103,34 +103,31 @@ fn pass_over(text: &[u8]) -> Passed
     }
 }
 
+// Where reading stands; `stop` is as in `Progress`.
+fn standing(have: usize, passing: bool, stop: u8, output: Output) -> Progress
+    ensures { λ r. ⌜ r .have ≡ have ⌝ }
+{
+    Progress {
+        have,
+        passing,
+        stop,
+        output,
+    }
+}
+
 // The input has ended: a last line without an end is still a line.
 fn last_line(progress: Progress, line: &[u8], octets: &mut [u8], buffer: &mut [u8]) -> Progress
     ensures { λ r. ⌜ r .have ≡ 0 ⌝ }
 {
     let output = progress.output;
     if progress.passing {
-        return Progress {
-            have: 0,
-            passing: false,
-            stop: 1,
-            output,
-        };
+        return standing(0, false, 1, output);
     }
     if line.len() == 0 {
-        return Progress {
-            have: 0,
-            passing: false,
-            stop: 1,
-            output,
-        };
+        return standing(0, false, 1, output);
     }
     let answered = answer_line(line, octets, buffer, output);
-    Progress {
-        have: 0,
-        passing: false,
-        stop: 1,
-        output: answered,
-    }
+    standing(0, false, 1, answered)
 }
 
 // The first `full` bytes of the line buffer are there: answers the whole lines and moves the rest to the start.
@@ -152,19 +149,9 @@ fn take_lines(
     let have = full - used;
     if have == lines.len() {
         let told = malformed(buffer, answered);
-        return Progress {
-            have: 0,
-            passing: true,
-            stop: 0,
-            output: told,
-        };
+        return standing(0, true, 0, told);
     }
-    Progress {
-        have,
-        passing: false,
-        stop: 0,
-        output: answered,
-    }
+    standing(have, false, 0, answered)
 }
 
 // One read, and the lines that are whole then. The answers are written before the next read waits.
@@ -177,21 +164,11 @@ fn turn(progress: Progress, lines: &mut [u8], octets: &mut [u8], buffer: &mut [u
     let empty = flush(buffer, output);
     let got = libc::read(libc::STDIN_FILENO, &mut lines[have..]);
     if got < 0 {
-        return Progress {
-            have: 0,
-            passing: false,
-            stop: 2,
-            output: empty,
-        };
+        return standing(0, false, 2, empty);
     }
     let count = io::count(got, &lines[have..]);
     if count == 0 {
-        let ended = Progress {
-            have,
-            passing: progress.passing,
-            stop: 0,
-            output: empty,
-        };
+        let ended = standing(have, progress.passing, 0, empty);
         return last_line(ended, &lines[0..have], octets, buffer);
     }
     let full = have + count;
@@ -203,12 +180,7 @@ fn turn(progress: Progress, lines: &mut [u8], octets: &mut [u8], buffer: &mut [u
     if passed.over {
         return take_lines(lines, at, full, octets, buffer, empty);
     }
-    Progress {
-        have: 0,
-        passing: true,
-        stop: 0,
-        output: empty,
-    }
+    standing(0, true, 0, empty)
 }
 
 // A proved loop has to end, and nothing says that the input does: the loop counts its turns down from a number that no run uses up.

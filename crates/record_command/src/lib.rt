@@ -126,21 +126,15 @@ pub fn answer_record(
     output: Output,
 ) -> Output {
     let log = octets_word(line, words, octets, 0);
-    let log_words = log.words;
     let size = log.count;
-    let used = number_word(line, log_words, MOST);
-    let used_words = used.words;
-    let event = happened_word(line, used_words);
-    let event_words = event.words;
-    let message = octets_word(line, event_words, octets, size);
-    let message_words = message.words;
+    let used = number_word(line, log.words, MOST);
+    let event = happened_word(line, used.words);
+    let message = octets_word(line, event.words, octets, size);
     let received = message.count;
-    let claim = claims_word(line, message_words);
-    let claim_words = claim.words;
+    let claim = claims_word(line, message.words);
     let behind = std::num::wrapping_add_usize(size, received);
-    let reply = octets_word(line, claim_words, octets, behind);
-    let rest = reply.words;
-    if !finished(line, rest) {
+    let reply = octets_word(line, claim.words, octets, behind);
+    if !finished(line, reply.words) {
         return malformed(buffer, output);
     }
     let happened = event.happened;
