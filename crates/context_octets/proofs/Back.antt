@@ -20,7 +20,7 @@ use Rattle.context_octets.specs.declared.Numbered.the-variants.{Is as Is
 use Rattle.context_octets.specs.declared.Reading.{Reading}
 use Rattle.context_octets.specs.declared.Reading.the-variants.{Is, NoContext}
 use Rattle.context_octets.specs.Octets.{bit, contextOf, fourNumber, isKept, octetsOf, onState, parametersAt, stateAt, timersAt, withState}
-use Rattle.context_octets.proofs.Listed.{all-listed, listed}
+use Rattle.octets.proofs.Listed.{all-listed, listed}
 
 -- ---- what is written is read back
 

@@ -1,4 +1,5 @@
 pub mod Choice
 pub mod Coincide
+pub mod Listed
 pub mod Rows
 pub mod Stores

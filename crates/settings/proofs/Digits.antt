@@ -1,7 +1,7 @@
 -- Laws of digits, and of the octets and numbers that they write, in the terms of the loops that read them.
 use Prim.Native.Nat.{ℕ, suc, _+_, _-_, _*_, _≤_, _<_}
 use mathlib.Core.Path.{_≡_, refl, sym, ap, _∙_}
-use mathlib.Core.Bool.{Bool, true, false, _&&_}
+use mathlib.Core.Bool.{Bool, true, false, _&&_, and-false}
 use mathlib.Core.List.{List, [], _∷_}
 use native.Mathlib.Omega.{arith}
 use native.Mathlib.Numerals.{add-one}
@@ -11,10 +11,6 @@ use lib.ListN.{length, getD, drop, set, drop-of-length-le}
 use lib.Seq.{drop-cons}
 use Rattle.settings.specs.Digits.{between, digit, digits, octetsOf, numberFrom}
 use Rattle.settings.specs.Values.{noHex, hexFrom, decimalFrom}
-
-pub and-false : (t : Bool) → (t && false) ≡ false
-and-false true = refl
-and-false false = refl
 
 -- An octet inside a range, below it and above it.
 inside : (low b high : ℕ) → low ≤ b → b ≤ high → between low b high ≡ true

@@ -1,7 +1,7 @@
 -- Laws of the four values, in the terms of the functions that read them.
 use Prim.Native.Nat.{ℕ, zero, suc, _+_, _-_, _*_, _≤_, _<_, _%_, _/_}
 use mathlib.Core.Path.{_≡_, refl, sym, ap, _∙_}
-use mathlib.Core.Bool.{Bool, true, false, cond, not, _&&_}
+use mathlib.Core.Bool.{Bool, true, false, cond, not, _&&_, and-false}
 use mathlib.Core.List.{List, [], _∷_}
 use native.Mathlib.Omega.{arith}
 use borrow.Author.Tests.{lt-ltb, le-ltb, le-leb, lt-leb, eq-eqb, ne-eqb}
@@ -9,7 +9,6 @@ use lib.Dec.{leb, eqb}
 use lib.ListN.{length, getD, drop, replicate}
 use lib.Seq.{sets, sets-eq}
 use Rattle.octets.proofs.Choice.{never}
-use Rattle.settings.proofs.Digits.{and-false}
 use Rattle.settings.specs.declared.Fault.the-variants.{BadKey, BadClassmark, BadIdentity, BadJoining}
 use Rattle.settings.specs.declared.Hex.{Hex}
 use Rattle.settings.specs.Digits.{digit, digits, octetsOf, numberFrom}

@@ -8,7 +8,7 @@ use borrow.Author.Tests.{le-ltb}
 use Rattle.settings.specs.declared.Settings.{Settings}
 use Rattle.settings.specs.Settings.{padded}
 use Rattle.settings.specs.Written.{InRange}
-use Rattle.context_octets.proofs.Listed.{all-listed}
+use Rattle.octets.proofs.Listed.{all-listed}
 use Rattle.settings_octets.specs.Octets.{identityOf, lengthOctet, octetsOf, ownOf, runOf}
 
 -- Key number and classmark.
