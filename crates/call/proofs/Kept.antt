@@ -48,16 +48,16 @@ use Rattle.call.specs.Step.{
 
 -- A row keeps the timers fit: those that fit the state fit the next one after what is stopped and set; unless the next is U0, which clears.
 abbrev keeps : State → Test
-keeps s n next sends stops sets = same next U0 || ofTimers (λ t. not (timersFit s t) || timersFit next (timersAfter stops sets t))
+keeps s n next actions sends stops sets = same next U0 || ofTimers (λ t. not (timersFit s t) || timersFit next (timersAfter stops sets t))
 
 -- Every row of the table does.
-rows-keep : (s : State) → inTable (keeps s) s stepTable ≡ true
+rows-keep : (x : Context) (s : State) → inTable (keeps s) s x stepTable ≡ true
 unfolding stepTable timersFit withTimer
-rows-keep = at-state (λ s. inTable (keeps s) s stepTable) refl
+rows-keep x = at-state (λ s. inTable (keeps s) s x stepTable) refl
 
 -- What the table decides in a state: a row that keeps timers fit; SET PARAMETER not in U0.
 abbrev Good : State → Decision → Type 0
-Good s (Take next actions sends stops sets) = keeps s 0 next sends stops sets ≡ true
+Good s (Take next actions sends stops sets) = keeps s 0 next actions sends stops sets ≡ true
 Good s NoStep = Unit {0}
 Good s Ignore = Unit {0}
 Good s (Report cause) = Unit {0}
@@ -67,7 +67,7 @@ Good s SetParameters = same s U0 ≡ false
 decided-good : (x : Context) (n code : ℕ) → Good (x .state) (decidedOf x n code)
 unfolding decidedOf
 decided-good x n code =
-    decided-holds (keeps (x .state)) (λ k d. Good (x .state) d) (x .state) x (λ k next actions sends stops sets e. e) (λ k. tt) (rows-keep (x .state)) tt (λ cause. tt) tt
+    decided-holds (keeps (x .state)) (λ k d. Good (x .state) d) (x .state) x (λ k next actions sends stops sets e. e) (λ k. tt) (rows-keep x (x .state)) tt (λ cause. tt) tt
     (λ e. e) n code
 
 -- The value that an event stores is at most 6.
@@ -154,11 +154,11 @@ runsIn NoChannel t = t .nochannel
 
 -- A row sets no timer that runs, except that of event 12, which leaves it to run.
 abbrev fresh : State → Test
-fresh s n next sends stops sets = eqb n 12 || ofTimers (λ t. not (timersFit s t) || not (runsIn sets t))
+fresh s n next actions sends stops sets = eqb n 12 || ofTimers (λ t. not (timersFit s t) || not (runsIn sets t))
 
-rows-fresh : (s : State) → inTable (fresh s) s stepTable ≡ true
+rows-fresh : (x : Context) (s : State) → inTable (fresh s) s x stepTable ≡ true
 unfolding stepTable timersFit
-rows-fresh = at-state (λ s. inTable (fresh s) s stepTable) refl
+rows-fresh x = at-state (λ s. inTable (fresh s) s x stepTable) refl
 
 abbrev pub SetsFresh : Context → ℕ → Decision → Type 0
 SetsFresh x n (Take next actions sends stops sets) = eqb n 12 ≡ false → runsIn sets (x .timers) ≡ false
@@ -178,4 +178,4 @@ sets-fresh x fit n code =
     (if-so _ _
     (at-timers (λ t. not (timersFit (x .state) t) || not (runsIn sets t)) (rw f at e) (x .timers))
     (fit-timers x fit)))
-    (λ k. tt) (rows-fresh (x .state)) tt (λ cause. tt) tt (λ e. tt) n code
+    (λ k. tt) (rows-fresh x (x .state)) tt (λ cause. tt) tt (λ e. tt) n code

@@ -64,14 +64,16 @@ module _ (identity : List ℕ) (x : Context) where
   react-right h s = at-cond (Right x) (eqb (h .number) 18) _ _ (λ e. heard-right (h .mode) s) (λ e. event-right (eventOf (h .number) (h .value) (h .reference)))
 
 -- What a reaction's answer says: it is a number of the table, 0 to 7; any but 0 keeps the context and has no actions; any but 0 and 2 writes nothing.
+-- Its actions are at most 63.
 pub record Honest (x : Context) (r : Reaction) : Type 0 where
   pub numbered : r .answer ≤ 7
   pub kept : (r .answer ≡ 0 → ⊥) → r .context ≡ x
   pub still : (r .answer ≡ 0 → ⊥) → r .actions ≡ 0
   pub silent : (r .answer ≡ 0 → ⊥) → (r .answer ≡ 2 → ⊥) → r .reply ≡ []
+  pub few : r .actions ≤ 63
 
 refused-honest : (x : Context) (answer : ℕ) → answer ≤ 7 → Honest x (refused answer x)
-refused-honest x answer few = record { numbered = few; kept = λ n. refl; still = λ n. refl; silent = λ n m. refl }
+refused-honest x answer most = record { numbered = most; kept = λ n. refl; still = λ n. refl; silent = λ n m. refl; few = omega arith }
 
 unsent : (own : Own) (identity s : List ℕ) (x : Context) (sends : Send) → sends ≡ Nothing → replyOf own identity s x sends ≡ []
 unfolding replyOf
@@ -83,6 +85,7 @@ reacted-honest own identity s x t r = record {
   kept = r .kept;
   still = r .still;
   silent = λ n m. unsent own identity s (t .context) (t .sends) (r .silent n m);
+  few = r .few;
 }
 
 -- Every call is answered 0 to 7. Answers 1 and 3 to 7 change nothing lent, and 2 keeps the context.

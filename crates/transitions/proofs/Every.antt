@@ -43,20 +43,20 @@ abbrev pub numberIn : Occasion → ℕ
 numberIn (event n) = n
 numberIn (message code) = 18
 
--- A test of a row: its event number, next state, what is sent, which timer is stopped, which is set.
+-- A test of a row: its event number, next state, actions, what is sent, which timer is stopped, which is set.
 abbrev pub Test : Type 0
-Test = ℕ → State → Send → Timer → Timer → Bool
+Test = ℕ → State → ℕ → Send → Timer → Timer → Bool
 
 -- The test where a row holds in the state.
 abbrev placeTest : State → List Place → Bool → Bool
 placeTest s [] t = true
 placeTest s (p ∷ ps) t = cond (same s (p .0)) t (placeTest s ps t)
 
--- The test of every row that holds in the state.
-abbrev pub inTable : Test → State → List Row → Bool
-inTable test s [] = true
-inTable test s (row places occasion next actions effects ∷ more) =
-    placeTest s places (test (numberIn occasion) next (sentBy effects) (stoppedBy effects) (setBy effects)) && inTable test s more
+-- The test of every row that holds in the state; a row's actions are those in the context.
+abbrev pub inTable : Test → State → Context → List Row → Bool
+inTable test s x [] = true
+inTable test s x (row places occasion next actions effects ∷ more) =
+    placeTest s places (test (numberIn occasion) next (actions s x) (sentBy effects) (stoppedBy effects) (setBy effects)) && inTable test s x more
 
 -- Every row of a list.
 abbrev All : (ℕ → Decision → Type 0) → List (ℕ × Decision) → Type 0
@@ -74,17 +74,17 @@ both P (r ∷ rs) qs p q = (p .0, both P rs qs (p .1) q)
 
 -- The section is over the test, what it is to show of a decision, and what holds of the decisions that are no row.
 module _ (test : Test) (P : ℕ → Decision → Type 0) (s : State) (x : Context)
-    (takes : (n : ℕ) (next : State) (actions : ℕ) (sends : Send) (stops sets : Timer) → test n next sends stops sets ≡ true → P n (Take next actions sends stops sets))
+    (takes : (n : ℕ) (next : State) (actions : ℕ) (sends : Send) (stops sets : Timer) → test n next actions sends stops sets ≡ true → P n (Take next actions sends stops sets))
     (none : (n : ℕ) → P n NoStep) where
   placed : (n : ℕ) (places : List Place) (next : State) (actions : ℕ) (sends : Send) (stops sets : Timer) (Q : List (ℕ × Decision) → Type 0)
-      (here : Decision → List (ℕ × Decision)) (more : List (ℕ × Decision)) → placeTest s places (test n next sends stops sets) ≡ true
+      (here : Decision → List (ℕ × Decision)) (more : List (ℕ × Decision)) → placeTest s places (test n next actions sends stops sets) ≡ true
       → ((d : Decision) → P n d → Q (here d)) → Q more → Q (inPlace s x places (Take next actions sends stops sets) here more)
   placed n [] next actions sends stops sets Q here more e yes-way no-way = no-way
   placed n (p ∷ ps) next actions sends stops sets Q here more e yes-way no-way =
       go (same s (p .0)) e (placed n ps next actions sends stops sets Q here more)
     where
-      go : (t : Bool) → cond t (test n next sends stops sets) (placeTest s ps (test n next sends stops sets)) ≡ true
-          → (placeTest s ps (test n next sends stops sets) ≡ true → ((d : Decision) → P n d → Q (here d)) → Q more
+      go : (t : Bool) → cond t (test n next actions sends stops sets) (placeTest s ps (test n next actions sends stops sets)) ≡ true
+          → (placeTest s ps (test n next actions sends stops sets) ≡ true → ((d : Decision) → P n d → Q (here d)) → Q more
           → Q (inPlace s x ps (Take next actions sends stops sets) here more))
           → Q (cond t (here (cond ((p .1) x) (Take next actions sends stops sets) NoStep)) (inPlace s x ps (Take next actions sends stops sets) here more))
       go true f rest =
@@ -92,26 +92,26 @@ module _ (test : Test) (P : ℕ → Decision → Type 0) (s : State) (x : Contex
           (at-cond (P n) ((p .1) x) (Take next actions sends stops sets) NoStep (λ q. takes n next actions sends stops sets f) (λ q. none n))
       go false f rest = rest f yes-way no-way
 
-  events-hold : (table : List Row) → inTable test s table ≡ true → All P (eventsIn s x table)
+  events-hold : (table : List Row) → inTable test s x table ≡ true → All P (eventsIn s x table)
   events-hold [] e = tt
   events-hold (row places (event n) next actions effects ∷ more) e =
-      let rest = events-hold more (and-right (placeTest s places (test n next (sentBy effects) (stoppedBy effects) (setBy effects))) _ e) in
+      let rest = events-hold more (and-right (placeTest s places (test n next (actions s x) (sentBy effects) (stoppedBy effects) (setBy effects))) _ e) in
       placed n places next (actions s x) (sentBy effects) (stoppedBy effects) (setBy effects) (All P) (λ d. (n, d) ∷ eventsIn s x more) (eventsIn s x more)
-      (and-left (placeTest s places (test n next (sentBy effects) (stoppedBy effects) (setBy effects))) _ e) (λ d p. (p, rest)) rest
+      (and-left (placeTest s places (test n next (actions s x) (sentBy effects) (stoppedBy effects) (setBy effects))) _ e) (λ d p. (p, rest)) rest
   events-hold (row places (message code) next actions effects ∷ more) e =
-      events-hold more (and-right (placeTest s places (test 18 next (sentBy effects) (stoppedBy effects) (setBy effects))) _ e)
+      events-hold more (and-right (placeTest s places (test 18 next (actions s x) (sentBy effects) (stoppedBy effects) (setBy effects))) _ e)
 
-  messages-hold : (table : List Row) → inTable test s table ≡ true → All (λ code d. P 18 d) (messagesIn s x table)
+  messages-hold : (table : List Row) → inTable test s x table ≡ true → All (λ code d. P 18 d) (messagesIn s x table)
   messages-hold [] e = tt
   messages-hold (row places (event n) next actions effects ∷ more) e =
-      messages-hold more (and-right (placeTest s places (test n next (sentBy effects) (stoppedBy effects) (setBy effects))) _ e)
+      messages-hold more (and-right (placeTest s places (test n next (actions s x) (sentBy effects) (stoppedBy effects) (setBy effects))) _ e)
   messages-hold (row places (message code) next actions effects ∷ more) e =
-      let rest = messages-hold more (and-right (placeTest s places (test 18 next (sentBy effects) (stoppedBy effects) (setBy effects))) _ e) in
+      let rest = messages-hold more (and-right (placeTest s places (test 18 next (actions s x) (sentBy effects) (stoppedBy effects) (setBy effects))) _ e) in
       placed 18 places next (actions s x) (sentBy effects) (stoppedBy effects) (setBy effects) (All (λ k d. P 18 d)) (λ d. (code, d) ∷ messagesIn s x more) (messagesIn s x more)
-      (and-left (placeTest s places (test 18 next (sentBy effects) (stoppedBy effects) (setBy effects))) _ e) (λ d p. (p, rest)) rest
+      (and-left (placeTest s places (test 18 next (actions s x) (sentBy effects) (stoppedBy effects) (setBy effects))) _ e) (λ d p. (p, rest)) rest
 
   -- Whatever the table decides, where every row passes the test.
-  pub decided-holds : inTable test s stepTable ≡ true → P 18 Ignore → ((cause : ℕ) → P 18 (Report cause)) → P 18 TellStatus
+  pub decided-holds : inTable test s x stepTable ≡ true → P 18 Ignore → ((cause : ℕ) → P 18 (Report cause)) → P 18 TellStatus
       → (same s U0 ≡ false → P 18 SetParameters) → (n code : ℕ) → P n (decidedIn s x n code)
   unfolding decidedIn heardIn
   decided-holds e ignores reports tells sets n code =

@@ -1,3 +1,4 @@
 pub mod InState
 pub mod Every
+pub mod Actions
 pub mod Coincide

@@ -71,11 +71,11 @@ plain-reply own identity s u x (Status cause) e = refl
 plain-reply own identity s u x (ErrorStatus cause) e = never e
 
 abbrev plainRow : Test
-plainRow n next sends stops sets = plain sends
+plainRow n next actions sends stops sets = plain sends
 
-rows-plain : (s : State) → inTable plainRow s stepTable ≡ true
+rows-plain : (x : Context) (s : State) → inTable plainRow s x stepTable ≡ true
 unfolding stepTable
-rows-plain = at-state (λ s. inTable plainRow s stepTable) refl
+rows-plain x = at-state (λ s. inTable plainRow s x stepTable) refl
 
 abbrev Plain : Decision → Type 0
 Plain (Take next actions sends stops sets) = plain sends ≡ true
@@ -88,7 +88,7 @@ Plain SetParameters = ⊥
 decided-plain : (x : Context) (n code : ℕ) → eqb n 18 ≡ false → Plain (decidedOf x n code)
 unfolding decidedOf
 decided-plain x n code =
-    decided-holds plainRow (λ k d. eqb k 18 ≡ false → Plain d) (x .state) x (λ k next actions sends stops sets e f. e) (λ k f. tt) (rows-plain (x .state))
+    decided-holds plainRow (λ k d. eqb k 18 ≡ false → Plain d) (x .state) x (λ k next actions sends stops sets e f. e) (λ k f. tt) (rows-plain x (x .state))
     (λ f. tt) (λ cause f. never (sym f)) (λ f. never (sym f)) (λ q f. never (sym f)) n code
 
 abbrev PlainTaken : Taken → Type 0

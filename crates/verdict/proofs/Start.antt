@@ -68,22 +68,22 @@ abbrev runsOf : Timers → ℕ
 runsOf t = cond (t .mmest) 1 (cond (t .term) 2 (cond (t .connreq) 3 (cond (t .nochannel) 4 0)))
 
 abbrev rightRow : State → Test
-rightRow s n next sends stops sets =
+rightRow s n next actions sends stops sets =
     ofTimers
     (λ t. not (timersFit s t)
     || rightly (cond (eqb n 12 && t .nochannel) 0 (timerNumber sets)) (runsOf t) (cond (same next U0) 0 (runsOf (timersAfter stops sets t))))
 
-rows-right : (s : State) → inTable (rightRow s) s stepTable ≡ true
+rows-right : (x : Context) (s : State) → inTable (rightRow s) s x stepTable ≡ true
 unfolding stepTable timersFit withTimer
-rows-right = at-state (λ s. inTable (rightRow s) s stepTable) refl
+rows-right x = at-state (λ s. inTable (rightRow s) s x stepTable) refl
 
 -- No row of a message sets a timer.
 abbrev silentRow : Test
-silentRow n next sends stops sets = not (eqb n 18) || eqb (timerNumber sets) 0
+silentRow n next actions sends stops sets = not (eqb n 18) || eqb (timerNumber sets) 0
 
-rows-silent : (s : State) → inTable silentRow s stepTable ≡ true
+rows-silent : (x : Context) (s : State) → inTable silentRow s x stepTable ≡ true
 unfolding stepTable
-rows-silent = at-state (λ s. inTable silentRow s stepTable) refl
+rows-silent x = at-state (λ s. inTable silentRow s x stepTable) refl
 
 -- ---- a step
 
@@ -132,7 +132,7 @@ module _ (x : Context) where
     unfolding runs
     runs-now = refl
 
-    take-right : (n : ℕ) (next : State) (stops sets : Timer) (stores : Stores) → rightRow (x .state) n next Send.Nothing stops sets ≡ true
+    take-right : (n : ℕ) (next : State) (stops sets : Timer) (stores : Stores) → rightRow (x .state) n next 0 Send.Nothing stops sets ≡ true
         → rightly (cond (eqb n 12 && x .timers .nochannel) 0 (timerNumber sets)) (runs x) (runs (afterwards x next stops sets stores)) ≡ true
     take-right n next stops sets stores q =
         rw (runs-after x next stops sets stores, runs-now)
@@ -147,7 +147,7 @@ module _ (x : Context) where
     decided-right n code =
         decided-holds (rightRow (x .state)) (λ k d. (e : Seen) → Right (setBy x k d) (carriedOut x d e)) (x .state) x
         (λ k next actions sends stops sets q e. take-right k next stops sets (e .stores) q)
-        (λ k e. none-right) (rows-right (x .state)) (λ e. ignored-right) (λ cause e. reported-right cause) (λ e. told-right) (λ q e. set-right (e .attributes)) n code
+        (λ k e. none-right) (rows-right x (x .state)) (λ e. ignored-right) (λ cause e. reported-right cause) (λ e. told-right) (λ q e. set-right (e .attributes)) n code
 
     event-right : (event : CallEvent) → Right (setByEvent x event) (stepValue x event)
     unfolding stepValue
@@ -163,7 +163,7 @@ module _ (x : Context) where
     unfolding decidedOf
     silent code =
         decided-holds silentRow (λ k d. eqb k 18 ≡ true → setBy x k d ≡ 0) (x .state) x
-        (λ k next actions sends stops sets q h. sets-none k (timerNumber sets) h q) (λ k h. refl) (rows-silent (x .state)) (λ h. refl) (λ cause h. refl) (λ h. refl) (λ q h. refl) 18 code refl
+        (λ k next actions sends stops sets q h. sets-none k (timerNumber sets) h q) (λ k h. refl) (rows-silent x (x .state)) (λ h. refl) (λ cause h. refl) (λ h. refl) (λ q h. refl) 18 code refl
       where
         sets-none : (k set : ℕ) → eqb k 18 ≡ true → (not (eqb k 18) || eqb set 0) ≡ true → cond (eqb k 12 && x .timers .nochannel) 0 set ≡ 0
         sets-none k set h q = let z : k ≡ 18 = eqb-true k 18 h in let w : set ≡ 0 = eqb-true set 0 (rw z at q) in rw (z, w)
