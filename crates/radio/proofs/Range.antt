@@ -29,6 +29,9 @@ chosen false false true d e = let z : ⊥ = omega arith in elim z [ ]
 chosen false false false true e = let z : ⊥ = omega arith in elim z [ ]
 chosen false false false false e = (refl, (refl, (refl, refl)))
 
+positive : (n : ℕ) → (n ≡ 0 → ⊥) → 1 ≤ n
+positive n h = omega arith
+
 -- What holds of a step that is not refused.
 pub record InRange (x : Context) (key identity : ℕ) (h : Happened) (octets room : ℕ) : Type 0 where
   pub fit : fitOf x ≡ true
@@ -55,9 +58,6 @@ in-range x key identity h octets room e =
       short = p .1 .1 .0;
       range = o;
     }
-  where
-    positive : (n : ℕ) → (n ≡ 0 → ⊥) → 1 ≤ n
-    positive n h = omega arith
 
 -- The other way round: a step that passes each test is not refused.
 pub passed : (x : Context) (key identity : ℕ) (h : Happened) (octets room : ℕ) → fitOf x ≡ true → 255 ≤ room → eqb (h .number) 18 && ltb 251 octets ≡ false
@@ -78,15 +78,35 @@ refused-over x key identity h octets room = go (not (fitOf x)) (ltb room 255) (e
     go false false false true n = omega arith
     go false false false false n = absurd (n refl)
 
--- The transaction value of an event that carries one is at most 6.
-pub value-most : (key identity : ℕ) (h : Happened) → outOfRange key identity h ≡ false → (eqb (h .number) 1 || (eqb (h .number) 2 || eqb (h .number) 10)) ≡ true
-    → leb (h .value) 6 ≡ true
-unfolding outOfRange
-value-most key identity h e c =
-    let a = neither-second (ltb 7 key) _ e in
-    let b = neither-second (eqb identity 0) _ a in
-    let d = neither-second (ltb 8 identity) _ b in
-    let f = neither-second (eqb (h .number) 0 || ltb 18 (h .number)) _ d in
-    let g : (eqb (h .number) 1 || (eqb (h .number) 2 || eqb (h .number) 10)) && ltb 6 (h .value) ≡ false = neither-second (eqb (h .number) 18 && ltb 1 (h .mode)) _ f in
-    let k : ltb 6 (h .value) ≡ false = rw c at g in
-    le-leb _ _ (ltb-false 6 (h .value) k)
+-- What the tests of range say of an event that passes them.
+module _ (key identity : ℕ) (h : Happened) (e : outOfRange key identity h ≡ false) where
+  event-tests : (eqb (h .number) 0 || ltb 18 (h .number))
+      || (eqb (h .number) 18 && ltb 1 (h .mode) || (eqb (h .number) 1 || (eqb (h .number) 2 || eqb (h .number) 10)) && ltb 6 (h .value)) ≡ false
+  unfolding outOfRange
+  event-tests = neither-second (ltb 8 identity) _ (neither-second (eqb identity 0) _ (neither-second (ltb 7 key) _ e))
+
+  data-tests : eqb (h .number) 18 && ltb 1 (h .mode) || (eqb (h .number) 1 || (eqb (h .number) 2 || eqb (h .number) 10)) && ltb 6 (h .value) ≡ false
+  data-tests = neither-second (eqb (h .number) 0 || ltb 18 (h .number)) _ event-tests
+
+  -- Its number is 1 to 18.
+  pub number-least : 1 ≤ h .number
+  number-least =
+      let n : h .number ≡ 0 → ⊥ = eqb-false _ 0 (neither-first (eqb (h .number) 0) _ (neither-first (eqb (h .number) 0 || ltb 18 (h .number)) _ event-tests)) in
+      positive (h .number) n
+
+  pub number-most : h .number ≤ 18
+  number-most = ltb-false 18 _ (neither-second (eqb (h .number) 0) _ (neither-first (eqb (h .number) 0 || ltb 18 (h .number)) _ event-tests))
+
+  -- The mode of a message received is 0 or 1.
+  pub mode-most : eqb (h .number) 18 ≡ true → h .mode ≤ 1
+  mode-most c =
+      let g : eqb (h .number) 18 && ltb 1 (h .mode) ≡ false = neither-first (eqb (h .number) 18 && ltb 1 (h .mode)) _ data-tests in
+      let k : ltb 1 (h .mode) ≡ false = rw c at g in
+      ltb-false 1 (h .mode) k
+
+  -- The transaction value of an event that carries one is at most 6.
+  pub value-most : (eqb (h .number) 1 || (eqb (h .number) 2 || eqb (h .number) 10)) ≡ true → leb (h .value) 6 ≡ true
+  value-most c =
+      let g : (eqb (h .number) 1 || (eqb (h .number) 2 || eqb (h .number) 10)) && ltb 6 (h .value) ≡ false = neither-second (eqb (h .number) 18 && ltb 1 (h .mode)) _ data-tests in
+      let k : ltb 6 (h .value) ≡ false = rw c at g in
+      le-leb _ _ (ltb-false 6 (h .value) k)

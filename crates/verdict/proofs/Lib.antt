@@ -3,6 +3,7 @@ pub mod Kept
 pub mod Carried
 pub mod Demand
 pub mod Recorder
+pub mod Recordable
 pub mod Start
 pub mod Cases
 pub mod Settings

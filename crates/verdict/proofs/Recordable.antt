@@ -1,0 +1,163 @@
+-- The recorder refuses no true step: what a step answered 0 to 3 gives is in range. So the recorder never answers 4 to it, where the delta is in range
+-- and no more bytes are used than the buffer has: those two are the host's.
+use Prim.Native.Nat.{ℕ, _+_, _≤_, _<_}
+use mathlib.Core.Path.{_≡_, refl, ap}
+use mathlib.Core.Bool.{Bool, true, false, _&&_}
+use mathlib.Core.List.{List, [], _∷_, _++_}
+use native.Mathlib.Omega.{arith}
+use lib.Dec.{eqb, leb, ltb}
+use lib.ListN.{length}
+use borrow.Author.Tests.{leb-true, ltb-false, eqb-true, eqb-false, le-leb, le-ltb}
+use Rattle.octets.proofs.Choice.{at-cond}
+use Rattle.codes.specs.declared.state.State.{State}
+use Rattle.codes.specs.declared.state.State.the-variants.{U0, U0p, U1, U2, U3, U4, U5, U6}
+use Rattle.codes.specs.declared.attributes.Parameters.{Parameters}
+use Rattle.codes.specs.Attributes.{weighs}
+use Rattle.context.specs.declared.Context.{Context}
+use Rattle.context.specs.States.{numberOf}
+use Rattle.reply.specs.declared.Own.{Own}
+use Rattle.radio.specs.Step.{refusalOf}
+use Rattle.radio.proofs.Range.{InRange, in-range, refused-over, number-least, number-most, mode-most, value-most}
+use Rattle.radio.proofs.Reacting.{step-by}
+use Rattle.radio.proofs.Answers.{Honest, step-honest, step-short}
+use Rattle.log.specs.declared.Reference.{Reference}
+use Rattle.log.specs.Layout.{Field, number, octets, allInRange, carriesCall, dataFields, claimFields, fields, ranged}
+use Rattle.recorder.specs.Recording.{added, recordAnswer, answerNumber}
+use Rattle.recorder.specs.declared.Recorded.{Recorded}
+use Rattle.recorder.specs.declared.Recorded.the-variants.{Used, OutOfRange, TooLong, NoRoom}
+use Rattle.table.specs.Log.{Entry}
+use Rattle.table.specs.Recorded.{Move, entryOf}
+use Rattle.verdict.specs.Table.{Event, parametersNumber, claimOf, stepped, steps, recordable}
+use Rattle.verdict.specs.Entries.{meantBy}
+
+-- ---- fields in range
+
+-- A field more: a number within its range, or octets.
+number-first : (least most n : ℕ) (more : List Field) → least ≤ n → n ≤ most → allInRange more ≡ true → allInRange (number least most n ∷ more) ≡ true
+unfolding allInRange
+number-first least most n more l m r = rw (le-leb least n l, le-leb n most m) r
+
+octets-first : (xs : List ℕ) (more : List Field) → allInRange more ≡ true → allInRange (octets xs ∷ more) ≡ true
+unfolding allInRange
+octets-first xs more r = r
+
+none-left : allInRange [] ≡ true
+unfolding allInRange
+none-left = refl
+
+-- What an event carries, before the rest: only that has to be in range.
+data-first : (event value : ℕ) (reference : Reference) (mode : ℕ) (message : List ℕ) (more : List Field)
+    → (carriesCall event ≡ true → value ≤ 6) → (eqb event 18 ≡ true → mode ≤ 1) → (eqb event 18 ≡ true → length message ≤ 251)
+    → allInRange more ≡ true → allInRange (dataFields event value reference mode message ++ more) ≡ true
+unfolding dataFields
+data-first event value reference mode message more v m l r =
+    at-cond Good (carriesCall event) _ _ (λ c. number-first 0 6 value _ (omega arith) (v c) (octets-first _ more r))
+    (λ c. at-cond Good (eqb event 18) _ _
+    (λ q. number-first 0 1 mode _ (omega arith) (m q) (number-first 0 251 (length message) _ (omega arith) (l q) (octets-first message more r)))
+    (λ q. r))
+  where
+    Good : List Field → Type 0
+    Good fs = allInRange (fs ++ more) ≡ true
+
+claim-ranged : (answer state parameters actions : ℕ) (reply : List ℕ) → answer ≤ 3 → state ≤ 7 → parameters ≤ 15 → actions ≤ 63 → length reply ≤ 255
+    → allInRange (claimFields answer state parameters actions reply) ≡ true
+unfolding claimFields
+claim-ranged answer state parameters actions reply a s p c l =
+    number-first 0 3 answer _ (omega arith) a
+    (number-first 0 7 state _ (omega arith) s
+    (number-first 0 15 parameters _ (omega arith) p
+    (number-first 0 63 actions _ (omega arith) c
+    (number-first 0 255 (length reply) _ (omega arith) l (octets-first reply [] none-left)))))
+
+-- ---- what a context comes to in numbers
+
+state-most : (s : State) → numberOf s ≤ 7
+state-most U0 = omega arith
+state-most U0p = omega arith
+state-most U1 = omega arith
+state-most U2 = omega arith
+state-most U3 = omega arith
+state-most U4 = omega arith
+state-most U5 = omega arith
+state-most U6 = omega arith
+
+weighs-most : (set : Bool) (weight : ℕ) → weighs set weight ≤ weight
+unfolding weighs
+weighs-most true weight = omega arith
+weighs-most false weight = omega arith
+
+parameters-most : (p : Parameters) → parametersNumber p ≤ 15
+unfolding parametersNumber
+parameters-most p =
+    omega (arith, weighs-most (p .orig) 8, weighs-most (p .comm) 4, weighs-most (p .datt) 2, weighs-most (p .uatt) 1)
+
+-- ---- the step
+
+-- The entry that the recorder is told of after a step: so many milliseconds since the entry before, the event, and what the step gave.
+abbrev pub entryAfter : (version : ℕ) (own : Own) (identity : List ℕ) → Context → Event → ℕ → Entry (steps version own identity)
+entryAfter version own identity x e delta = record { delta = delta; event = e; claim = claimOf (stepped own identity x e) }
+
+-- It is the entry that `specs/Host` has a host tell of.
+pub entry-as-told : (version : ℕ) (own : Own) (identity : List ℕ) (x : Context) (waited : ℕ) (m : Move (steps version own identity))
+    → entryAfter version own identity x (m .event) (waited + m .wait) ≡ entryOf (steps version own identity) x waited m
+entry-as-told version own identity x waited m = refl
+
+module _ (own : Own) (identity : List ℕ) (x : Context) (e : Event) (answered : recordable own identity x e ≡ true) where
+  abbrev refusal : ℕ
+  refusal = refusalOf x (own .key) (length identity) (e .happened) (length (e .octets)) 255
+
+  answer-most : stepped own identity x e .answer ≤ 3
+  answer-most = leb-true _ 3 answered
+
+  -- A refusal is answered with its number, which is over 3: so a step that is answered 0 to 3 was not refused.
+  not-refused : refusal ≡ 0
+  not-refused = go (eqb refusal 0) refl
+    where
+      go : (b : Bool) → eqb refusal 0 ≡ b → refusal ≡ 0
+      go true q = eqb-true refusal 0 q
+      go false q =
+          let s : stepped own identity x e .answer ≡ refusal = rw (step-by own identity 255 x (e .happened) (e .octets), q) in
+          let o : 3 < refusal = refused-over x (own .key) (length identity) (e .happened) (length (e .octets)) 255 (eqb-false refusal 0 q) in
+          absurd (omega (arith, s, o, answer-most))
+
+  passes : InRange x (own .key) (length identity) (e .happened) (length (e .octets)) 255
+  passes = in-range x (own .key) (length identity) (e .happened) (length (e .octets)) 255 not-refused
+
+  message-most : eqb (e .happened .number) 18 ≡ true → length (e .octets) ≤ 251
+  message-most c =
+      let g : eqb (e .happened .number) 18 && ltb 251 (length (e .octets)) ≡ false = passes .short in
+      let k : ltb 251 (length (e .octets)) ≡ false = rw c at g in
+      ltb-false 251 (length (e .octets)) k
+
+  call-most : carriesCall (e .happened .number) ≡ true → e .happened .value ≤ 6
+  unfolding carriesCall
+  call-most c = leb-true _ 6 (value-most (own .key) (length identity) (e .happened) (passes .range) c)
+
+  module _ (version delta : ℕ) (day : delta ≤ 86400000) where
+    -- Each number of the entry is in range. The context may be any: one that is not fit is answered 7.
+    pub true-step-ranged : ranged (meantBy version own identity (entryAfter version own identity x e delta)) ≡ true
+    unfolding ranged fields
+    true-step-ranged =
+        let h : Honest x (stepped own identity x e) = step-honest own identity 255 x (e .happened) (e .octets) in
+        let l : length (stepped own identity x e .reply) ≤ 251 = step-short own identity 255 x (e .happened) (e .octets) in
+        number-first 0 86400000 delta _ (omega arith) day
+        (number-first 1 18 (e .happened .number) _ (number-least (own .key) (length identity) (e .happened) (passes .range)) (number-most (own .key) (length identity) (e .happened) (passes .range))
+        (data-first (e .happened .number) (e .happened .value) _ (e .happened .mode) (e .octets) _ call-most
+        (mode-most (own .key) (length identity) (e .happened) (passes .range)) message-most
+        (claim-ranged _ _ _ _ _ answer-most (state-most (stepped own identity x e .context .state)) (parameters-most (stepped own identity x e .context .parameters))
+        (h .few) (omega (arith, l)))))
+
+    -- So with no more bytes used than there are, the recorder does not answer 4: it records the entry, or answers 10 or 11.
+    pub true-step-recorded : (log : List ℕ) (used : ℕ) → used ≤ length log → recordAnswer log used (meantBy version own identity (entryAfter version own identity x e delta)) ≡ OutOfRange → ⊥
+    unfolding recordAnswer
+    true-step-recorded log used inside =
+        rw (le-ltb (length log) used inside, true-step-ranged)
+        (at-cond Other (ltb 65536 total) TooLong _ (λ t q. let z : _≡_ {A = ℕ} 10 4 = ap answerNumber q in omega arith)
+        (λ t. at-cond Other (ltb (length log) total) NoRoom (Used total) (λ u q. let z : _≡_ {A = ℕ} 11 4 = ap answerNumber q in omega arith)
+        (λ u q. let z : _≡_ {A = ℕ} 0 4 = ap answerNumber q in omega arith)))
+      where
+        Other : Recorded → Type 0
+        Other r = r ≡ OutOfRange → ⊥
+
+        total : ℕ
+        total = used + length (added used (meantBy version own identity (entryAfter version own identity x e delta)))
