@@ -7,16 +7,7 @@ use Rattle.call.specs.declared.Due.{Due}
 use Rattle.call.specs.declared.Event.{Event}
 use Rattle.call.specs.declared.Stepped.{Stepped}
 use Rattle.call.specs.Due.{settled}
-use Rattle.call.specs.Step.{noStep, ignored, reportedWith, stepValue}
-
-pub refuse-coincides : (x : Context) (a b : Stepped) → a ≡ noStep x → b ≡ noStep x → a ≡ b
-refuse-coincides x a b = coincide (noStep x) a b
-
-pub ignore-coincides : (x : Context) (a b : Stepped) → a ≡ ignored x → b ≡ ignored x → a ≡ b
-ignore-coincides x a b = coincide (ignored x) a b
-
-pub report-coincides : (x : Context) (cause : ℕ) (a b : Stepped) → a ≡ reportedWith cause x → b ≡ reportedWith cause x → a ≡ b
-report-coincides x cause a b = coincide (reportedWith cause x) a b
+use Rattle.call.specs.Step.{stepValue}
 
 pub step-coincides : (x : Context) (event : Event) (a b : Stepped) → a ≡ stepValue x event → b ≡ stepValue x event → a ≡ b
 step-coincides x event a b = coincide (stepValue x event) a b

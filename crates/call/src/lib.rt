@@ -241,7 +241,7 @@ fn afterwards(context: Context, next: State, stops: Timer, sets: Timer, stores: 
 }
 
 // An event that has no step here.
-pub fn refuse(context: Context) -> Stepped
+fn refuse(context: Context) -> Stepped
     ensures { λ r. ⌜ r ≡ noStep context ⌝ }
 {
     Stepped {
@@ -253,7 +253,7 @@ pub fn refuse(context: Context) -> Stepped
 }
 
 // A message that is ignored.
-pub fn ignore(context: Context) -> Stepped
+fn ignore(context: Context) -> Stepped
     ensures { λ r. ⌜ r ≡ ignored context ⌝ }
 {
     Stepped {
@@ -265,7 +265,7 @@ pub fn ignore(context: Context) -> Stepped
 }
 
 // A message that is reported with this cause: a STATUS if COMM was true, else ignored.
-pub fn report(context: Context, cause: u8) -> Stepped
+fn report(context: Context, cause: u8) -> Stepped
     ensures { λ r. ⌜ r ≡ reportedWith cause context ⌝ }
 {
     let parameters = context.parameters;

@@ -5,13 +5,7 @@ use mathlib.Core.List.{List}
 use Rattle.octets.proofs.Coincide.{coincide}
 use Rattle.context.specs.declared.Context.{Context}
 use Rattle.call.specs.declared.Due.{Due}
-use Rattle.call.specs.declared.Stepped.{Stepped}
-use Rattle.received.specs.Received.{heardOf}
 use Rattle.received.specs.Due.{dueOf}
-
-pub hear-coincides : (identity : List ℕ) (x : Context) (mode : ℕ) (s : List ℕ) (a b : Stepped) → a ≡ heardOf identity x mode s → b ≡ heardOf identity x mode s
-    → a ≡ b
-hear-coincides identity x mode s a b = coincide (heardOf identity x mode s) a b
 
 pub listen-coincides : (identity : List ℕ) (x : Context) (mode : ℕ) (s : List ℕ) (a b : Due) → a ≡ dueOf identity x mode s → b ≡ dueOf identity x mode s → a ≡ b
 listen-coincides identity x mode s a b = coincide (dueOf identity x mode s) a b

@@ -3,11 +3,10 @@ ghost use mathlib.Core.Path.{_≡_};
 ghost use lib.ListN.{length};
 ghost use Prim.Native.Nat.{_+_, _≤_};
 ghost use Rattle.octets.specs.Run.{part};
-ghost use Rattle.received.specs.Received.{sameOctets, transactionIs, isNotOurs, causeIn, typeCause, namesOther, disowns, heardOf, Within};
+ghost use Rattle.received.specs.Received.{sameOctets, transactionIs, isNotOurs, causeIn, typeCause, namesOther, disowns, Within};
 ghost use Rattle.received.specs.Due.{dueOf, understoodDue};
 use call::Due;
 use call::Event;
-use call::Stepped;
 use context::Context;
 use element::Run;
 use message::Identity;
@@ -178,12 +177,4 @@ pub fn listen(context: Context, identity: &[u8], mode: u8, octets: &[u8]) -> Due
         Reading::Unreadable(_) => Due::Reported(96),
         Reading::TooLong => Due::Reported(96),
     }
-}
-
-// The six rules.
-pub fn hear(context: Context, identity: &[u8], mode: u8, octets: &[u8]) -> Stepped
-    ensures { λ r. ⌜ r ≡ heardOf (now (identity .entry)) context mode (now (octets .entry)) ⌝ }
-{
-    let due = listen(context, identity, mode, octets);
-    call::settle(context, due)
 }
