@@ -40,26 +40,6 @@ use Rattle.judge.specs.Turn.{onFound, eventAt, explainedOf, turnOf, begu
 use Rattle.judge.proofs.Explaining.{not-astray}
 use Rattle.judge.proofs.Mirror.{momentOf, intervalOf, Mirrors, explain-mirrors}
 
--- No timer runs where a walk begins.
-pub begun-idle : (s : List ℕ) (t : Track) → begunOf s ≡ At t → 0 ≡ runs (t .context)
-unfolding begunOf runs cleared
-begun-idle s t q = subst Idle q (by-number (numberAt s 0))
-  where
-    Idle : Begun → Type 0
-    Idle (At t) = 0 ≡ runs (t .context)
-    Idle NoVersion = Unit
-
-    by-number : (n : Number) → Idle (onNumber n NoVersion λ version place.
-        cond (eqb version 1)
-        (At (record { place = place; entries = 0; context = cleared; time = 0; started = 0; least = joiningLeast; greatest = joiningGreatest }))
-        NoVersion)
-    by-number NoNumber = tt
-    by-number (Value version place) = by-version (eqb version 1)
-      where
-        by-version : (b : Bool) → Idle (cond b (At (record { place = place; entries = 0; context = cleared; time = 0; started = 0; least = joiningLeast; greatest = joiningGreatest })) NoVersion)
-        by-version true = refl
-        by-version false = tt
-
 module _ (own : Own) (identity s : List ℕ) where
   abbrev 𝓢 : Steps
   𝓢 = steps 1 own identity
@@ -86,27 +66,30 @@ module _ (own : Own) (identity s : List ℕ) where
     out-of-range o = rw (le-ltb 65536 (length s) h, o)
 
     module _ (o : settingsOut (own .key) (length identity) ≡ false) where
+      -- The walk begins with the loop's promise, and no timer runs there.
       abbrev pub Starts : Begun → Type 0
-      Starts (At t) = Loop t
+      Starts (At t) = Loop t × (0 ≡ runs (t .context))
       Starts NoVersion = UnreadableAt 0 ≡ judgeOf own identity s
 
       pub begun-starts : Starts (begunOf s)
-      unfolding begunOf judgeOf versionJudged judgeOne judge
+      unfolding begunOf judgeOf versionJudged judgeOne judge runs cleared
       begun-starts = by-number (numberAt s 0) refl (number-moves s 0)
         where
           by-version : (version place : ℕ) → numberAt s 0 ≡ Value version place → Moves 5 greatest s 0 (Value version place) → (b : Bool) → eqb version 1 ≡ b
               → Starts (cond b (At (record { place = place; entries = 0; context = cleared; time = 0; started = 0; least = joiningLeast; greatest = joiningGreatest })) NoVersion)
           by-version version place q m true e =
-              let v : version ≡ 1 = eqb-true version 1 e in
-              record {
-                short = h;
-                inside = omega (arith, m);
-                ordered = omega arith;
-                timed = omega arith;
-                counted = omega arith;
-                fit = cleared-fit;
-                same = rw (le-ltb 65536 (length s) h, o, q, v);
-              }
+              let v : version ≡ 1 = eqb-true version 1 e in (
+                record {
+                  short = h;
+                  inside = omega (arith, m);
+                  ordered = omega arith;
+                  timed = omega arith;
+                  counted = omega arith;
+                  fit = cleared-fit;
+                  same = rw (le-ltb 65536 (length s) h, o, q, v);
+                },
+                refl,
+              )
           by-version version place q m false e = rw (le-ltb 65536 (length s) h, o, q, e)
 
           by-number : (n : Number) → numberAt s 0 ≡ n → Moves 5 greatest s 0 n

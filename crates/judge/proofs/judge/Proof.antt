@@ -5,7 +5,7 @@ use mathlib.Core.Path.{_≡_, sym, subst, _∙_}
 use native.Mathlib.Omega.{arith}
 use lib.ListN.{length}
 use Rattle.context.specs.Running.{runs}
-use Rattle.judge.proofs.Walk.{Loop, too-long, out-of-range, Starts, begun-starts, begun-idle, loop-end, loop-on-track, falls, goes-onward, is-torn, is-stuck, never-astray}
+use Rattle.judge.proofs.Walk.{Loop, too-long, out-of-range, Starts, begun-starts, loop-end, loop-on-track, falls, goes-onward, is-torn, is-stuck, never-astray}
 use Rattle.judge.specs.Turn.{Carries}
 use Rattle.judge.proofs.judge.Statement.{statement}
 use Rattle.judge.proofs.judge.Tie as tie
@@ -29,7 +29,7 @@ judge-spec =
     (λ c. search needs)
     (λ c. search needs)
     (λ c. subst (Starts (c .before .before .before .before .before .before .before .before .args .own) (c .before .before .before .before .before .before .before .before .args .identity .now) (c .before .before .before .before .before .before .before .before .args .log .now) (c .before .before .before .before .before .if1 .left) (sym (c .before .before .before .before .is-out-of-range .ensures) ∙ c .before .before .before .if2 .left)) (sym (c .before .before .begin .ensures) ∙ c .enum-told .given .1) (begun-starts (c .before .before .before .before .before .before .before .before .args .own) (c .before .before .before .before .before .before .before .before .args .identity .now) (c .before .before .before .before .before .before .before .before .args .log .now) (c .before .before .before .before .before .if1 .left) (sym (c .before .before .before .before .is-out-of-range .ensures) ∙ c .before .before .before .if2 .left)))
-    (λ c. (subst (Starts (c .before .before .before .before .before .before .before .before .before .args .own) (c .before .before .before .before .before .before .before .before .before .args .identity .now) (c .before .before .before .before .before .before .before .before .before .args .log .now) (c .before .before .before .before .before .before .if1 .left) (sym (c .before .before .before .before .before .is-out-of-range .ensures) ∙ c .before .before .before .before .if2 .left)) (sym (c .before .before .before .begin .ensures) ∙ c .before .first .given .1) (begun-starts (c .before .before .before .before .before .before .before .before .before .args .own) (c .before .before .before .before .before .before .before .before .before .args .identity .now) (c .before .before .before .before .before .before .before .before .before .args .log .now) (c .before .before .before .before .before .before .if1 .left) (sym (c .before .before .before .before .before .is-out-of-range .ensures) ∙ c .before .before .before .before .if2 .left)), begun-idle (c .before .before .before .before .before .before .before .before .before .args .log .now) _ (sym (c .before .before .before .begin .ensures) ∙ c .before .first .given .1)))
+    (λ c. subst (Starts (c .before .before .before .before .before .before .before .before .before .args .own) (c .before .before .before .before .before .before .before .before .before .args .identity .now) (c .before .before .before .before .before .before .before .before .before .args .log .now) (c .before .before .before .before .before .before .if1 .left) (sym (c .before .before .before .before .before .is-out-of-range .ensures) ∙ c .before .before .before .before .if2 .left)) (sym (c .before .before .before .begin .ensures) ∙ c .before .first .given .1) (begun-starts (c .before .before .before .before .before .before .before .before .before .args .own) (c .before .before .before .before .before .before .before .before .before .args .identity .now) (c .before .before .before .before .before .before .before .before .before .args .log .now) (c .before .before .before .before .before .before .if1 .left) (sym (c .before .before .before .before .before .is-out-of-range .ensures) ∙ c .before .before .before .before .if2 .left)))
     (λ c. omega (arith, c .before .before .before .loop .inv .0 .counted, c .before .before .before .loop .inv .0 .inside, c .before .before .before .loop .inv .0 .short))
     (λ c κs. (loop-on-track (c .before .before .before .before .before .before .before .before .before .before .before .before .before .before .args .own) (c .before .before .before .before .before .before .before .before .before .before .before .before .before .before .args .identity .now) (c .before .before .before .before .before .before .before .before .before .before .before .before .before .before .args .log .now) (c .before .before .before .before .loop .track) (c .before .before .before .before .loop .inv .0) (c .before .before .if3 .taken), record { fit = c .before .before .before .before .loop .inv .0 .fit; settings = sym (c .before .before .before .before .before .before .before .before .before .before .is-out-of-range .ensures) ∙ c .before .before .before .before .before .before .before .before .before .if2 .left }, c .before .before .before .before .loop .inv .1))
     (λ c. search needs)
