@@ -6,13 +6,13 @@ use Rattle.codes.specs.declared.state.State.the-variants.{U0}
 use Rattle.codes.specs.declared.attributes.Parameters.{Parameters}
 use Rattle.codes.specs.Attributes.{parametersOf}
 use Rattle.message.specs.declared.Reference.{Reference}
-use Rattle.context.specs.declared.Timers.{Timers}
+use Rattle.timer.specs.declared.Timers.{Timers}
 use Rattle.context.specs.declared.Context.{Context}
 use Rattle.context.specs.States.{same}
 use Rattle.context.specs.Context.{startRow, cleared}
 use Rattle.context.specs.Fit.{consistent}
-use Rattle.transitions.specs.declared.Timer.{Timer}
-use Rattle.transitions.specs.declared.Timer.the-variants.{NoTimer, MmEst, Term, ConnReq, NoChannel}
+use Rattle.timer.specs.declared.Timer.{Timer}
+use Rattle.timer.specs.Timers.{withTimer}
 use Rattle.transitions.specs.declared.Send.{Send}
 use Rattle.transitions.specs.declared.Send.the-variants as Send
 use Rattle.transitions.specs.declared.Decision.{Decision}
@@ -24,14 +24,6 @@ use Rattle.call.specs.declared.Stores.the-variants.{Nothing, Call, CallR
 use Rattle.call.specs.declared.Seen.{Seen}
 use Rattle.call.specs.declared.Stepped.{Stepped}
 use Rattle.call.specs.Events.{seenOf}
-
--- The timers with one of them running or not.
-unfoldable pub withTimer : Timer → Bool → Timers → Timers
-withTimer NoTimer runs t = t
-withTimer MmEst runs t = record { mmest = runs; term = t .term; connreq = t .connreq; nochannel = t .nochannel }
-withTimer Term runs t = record { mmest = t .mmest; term = runs; connreq = t .connreq; nochannel = t .nochannel }
-withTimer ConnReq runs t = record { mmest = t .mmest; term = t .term; connreq = runs; nochannel = t .nochannel }
-withTimer NoChannel runs t = record { mmest = t .mmest; term = t .term; connreq = t .connreq; nochannel = runs }
 
 -- A row stops a timer and sets a timer.
 abbrev pub timersAfter : Timer → Timer → Timers → Timers

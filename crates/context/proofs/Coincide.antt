@@ -9,7 +9,6 @@ use Rattle.context.specs.declared.Context.{Context}
 use Rattle.context.specs.States.{numberOf, flagOf}
 use Rattle.context.specs.Context.{startRow, cleared}
 use Rattle.context.specs.Fit.{consistent, fitOf}
-use Rattle.context.specs.Running.{runs, expiryOf, lengthOf}
 
 pub cleared-coincides : (a b : Context) → a ≡ cleared → b ≡ cleared → a ≡ b
 cleared-coincides a b = coincide cleared a b
@@ -28,12 +27,3 @@ is-consistent-coincides s p a b = coincide (consistent s p) a b
 
 pub is-fit-coincides : (x : Context) (a b : Bool) → a ≡ fitOf x → b ≡ fitOf x → a ≡ b
 is-fit-coincides x a b = coincide (fitOf x) a b
-
-pub running-timer-coincides : (x : Context) (a b : ℕ) → a ≡ runs x → b ≡ runs x → a ≡ b
-running-timer-coincides x a b = coincide (runs x) a b
-
-pub expired-timer-coincides : (event a b : ℕ) → a ≡ expiryOf event → b ≡ expiryOf event → a ≡ b
-expired-timer-coincides event a b = coincide (expiryOf event) a b
-
-pub timer-length-coincides : (joining timer a b : ℕ) → a ≡ lengthOf joining timer → b ≡ lengthOf joining timer → a ≡ b
-timer-length-coincides joining timer a b = coincide (lengthOf joining timer) a b

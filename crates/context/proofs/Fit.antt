@@ -9,12 +9,13 @@ use Rattle.codes.specs.declared.state.State.{State}
 use Rattle.codes.specs.declared.state.State.the-variants.{U0, U0p, U1, U2, U3, U4, U5, U6}
 use Rattle.codes.specs.declared.attributes.Parameters.{Parameters}
 use Rattle.message.specs.declared.Reference.{Reference}
-use Rattle.context.specs.declared.Timers.{Timers}
+use Rattle.timer.specs.declared.Timers.{Timers}
 use Rattle.context.specs.declared.Context.{Context}
 use Rattle.context.specs.States.{same}
-use Rattle.context.specs.Context.{startRow, cleared, noTimers}
+use Rattle.context.specs.Context.{startRow, cleared}
 use Rattle.context.specs.Fit.{consistent, timersFit, isCleared, fitOf}
-use Rattle.context.specs.Running.{runs, alone}
+use Rattle.timer.specs.Timers.{runningAmong, alone}
+use Rattle.context.specs.Running.{runs}
 use Rattle.context.proofs.Whole.{and-left, and-right, and-both, if-so, inStates, at-state, ofTimers, at-timers}
 
 -- Every start row is consistent with its state.
@@ -67,9 +68,6 @@ few s = at-timers (λ t. not (timersFit s t) || leb (running t) 1) (at-state (λ
 pub at-most-one : (x : Context) → fitOf x ≡ true → running (x .timers) ≤ 1
 at-most-one x fit = leb-true _ _ (if-so _ _ (few (x .state) (x .timers)) (fit-timers x fit))
 
-abbrev numberIn : Timers → ℕ
-numberIn t = cond (t .mmest) 1 (cond (t .term) 2 (cond (t .connreq) 3 (cond (t .nochannel) 4 0)))
-
 abbrev sameBool : Bool → Bool → Bool
 sameBool true b = b
 sameBool false b = not b
@@ -91,13 +89,12 @@ same-timers t u e =
     let d : t .nochannel ≡ u .nochannel = same-bool _ _ (and-right (sameBool (t .connreq) (u .connreq)) _ q) in
     rw (a, b, c, d)
 
-lone : (s : State) (t : Timers) → (not (timersFit s t) || sameTimers t (alone (numberIn t))) ≡ true
-unfolding timersFit alone
-lone s = at-timers (λ t. not (timersFit s t) || sameTimers t (alone (numberIn t))) (at-state (λ u. ofTimers (λ t. not (timersFit u t) || sameTimers t (alone (numberIn t)))) refl s)
+lone : (s : State) (t : Timers) → (not (timersFit s t) || sameTimers t (alone (runningAmong t))) ≡ true
+unfolding timersFit runningAmong alone
+lone s = at-timers (λ t. not (timersFit s t) || sameTimers t (alone (runningAmong t))) (at-state (λ u. ofTimers (λ t. not (timersFit u t) || sameTimers t (alone (runningAmong t)))) refl s)
 
 -- So the number of the timer that runs says which timers run.
 pub runs-alone : (x : Context) → fitOf x ≡ true → x .timers ≡ alone (runs x)
-unfolding runs
 runs-alone x fit = same-timers _ _ (if-so _ _ (lone (x .state) (x .timers)) (fit-timers x fit))
 
 none : (b : Bool) → not b ≡ true → b ≡ false

@@ -7,7 +7,7 @@ use Rattle.codes.specs.declared.state.State.{State}
 use Rattle.codes.specs.declared.state.State.the-variants.{U0}
 use Rattle.codes.specs.declared.attributes.Parameters.{Parameters}
 use Rattle.message.specs.declared.Reference.{Reference}
-use Rattle.context.specs.declared.Timers.{Timers}
+use Rattle.timer.specs.Timers.{noTimers}
 use Rattle.context.specs.declared.Context.{Context}
 use Rattle.context.specs.States.{numberOf}
 
@@ -44,10 +44,6 @@ startRowAt n = parametersIn (getD startRows n [])
 -- Entering a state sets its row.
 unfoldable pub startRow : State → Parameters
 startRow s = startRowAt (numberOf s)
-
--- No timer runs.
-abbrev pub noTimers : Timers
-noTimers = record { mmest = false; term = false; connreq = false; nochannel = false }
 
 -- Cleared means U0, parameters false, no timer, value 0, reference zero.
 unfoldable pub cleared : Context

@@ -4,18 +4,10 @@ ghost use mathlib.Core.Bool.{false};
 ghost use Rattle.context.specs.States.{numberOf, flagOf};
 ghost use Rattle.context.specs.Context.{startRow, cleared};
 ghost use Rattle.context.specs.Fit.{consistent, timersFit, isCleared, fitOf};
-ghost use Rattle.context.specs.Running.{runs, expiryOf, lengthOf};
 use codes::attributes::Parameters;
 use codes::state::State;
 use message::Reference;
-
-// Which timers run: T_MM-est, T_term, T_conn req, T_no channel.
-pub struct Timers {
-    pub mmest: bool,
-    pub term: bool,
-    pub connreq: bool,
-    pub nochannel: bool,
-}
+use timer::Timers;
 
 pub struct Context {
     pub state: State,
@@ -36,19 +28,6 @@ pub const START_ROWS: [[bool; 4]; 8] = [
     [true, true, true, true],
     [false, false, true, false],
 ];
-
-// The timers' lengths in milliseconds; T_conn req, the joining timer, is a setting from its least to its greatest.
-impl Timers {
-    pub const MM_EST: u32 = 5000;
-
-    pub const TERM: u32 = 10000;
-
-    pub const JOINING_LEAST: u32 = 10000;
-
-    pub const JOINING_GREATEST: u32 = 30000;
-
-    pub const NO_CHANNEL: u32 = 3000;
-}
 
 impl Context {
     // U0, parameters false, no timer, value 0, reference zero.
@@ -195,50 +174,4 @@ pub fn is_fit(context: Context) -> bool
         return is_cleared(context) & timers_fit(state, timers);
     }
     timers_fit(state, timers)
-}
-
-// The number of the timer that runs: 1 T_MM-est, 2 T_term, 3 T_conn req, 4 T_no channel, 0 none.
-pub fn running_timer(context: Context) -> u8
-    ensures { λ r. ⌜ r ≡ runs context ⌝ }
-{
-    let timers = context.timers;
-    if timers.mmest {
-        return 1;
-    }
-    if timers.term {
-        return 2;
-    }
-    if timers.connreq {
-        return 3;
-    }
-    if timers.nochannel {
-        return 4;
-    }
-    0
-}
-
-// The number of the timer whose expiry an event is, 0 where it is none.
-pub fn expired_timer(event: u32) -> u8
-    ensures { λ r. ⌜ r ≡ expiryOf event ⌝ }
-{
-    match event {
-        14 => 1,
-        15 => 2,
-        16 => 3,
-        17 => 4,
-        _ => 0,
-    }
-}
-
-// The length of the timer of a number, in milliseconds, where the joining timer is set to `joining`; 0 for no timer.
-pub fn timer_length(joining: u32, timer: u8) -> u32
-    ensures { λ r. ⌜ r ≡ lengthOf joining timer ⌝ }
-{
-    match timer {
-        1 => Timers::MM_EST,
-        2 => Timers::TERM,
-        3 => joining,
-        4 => Timers::NO_CHANNEL,
-        _ => 0,
-    }
 }

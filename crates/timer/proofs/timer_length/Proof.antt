@@ -2,9 +2,9 @@
 use borrow.Author.Needs.{needs}
 use Prim.Native.Nat.{ℕ}
 use Rattle.octets.proofs.Rows.{no-row}
-use Rattle.context.specs.Running.{lengths, lengthOf}
-use Rattle.context.proofs.timer_length.Statement.{statement}
-use Rattle.context.proofs.timer_length.Tie as tie
+use Rattle.timer.specs.Timers.{lengths, lengthOf}
+use Rattle.timer.proofs.timer_length.Statement.{statement}
+use Rattle.timer.proofs.timer_length.Tie as tie
 
 pub timer-length-spec : {M : Type 1} → statement M
 unfolding lengthOf

@@ -1,8 +1,8 @@
 -- `with_timer` meets its contract, timer by timer.
 use borrow.Author.Needs.{needs}
-use Rattle.call.specs.Step.{withTimer}
-use Rattle.call.proofs.with_timer.Statement.{statement}
-use Rattle.call.proofs.with_timer.Tie as tie
+use Rattle.timer.specs.Timers.{withTimer}
+use Rattle.timer.proofs.with_timer.Statement.{statement}
+use Rattle.timer.proofs.with_timer.Tie as tie
 
 pub with-timer-spec : {M : Type 1} → statement M
 unfolding withTimer
