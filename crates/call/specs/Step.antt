@@ -1,59 +1,54 @@
 -- Document 01, "Events and steps": what a row of the step table brings about, GET STATUS, SET PARAMETER, "reported" and "ignored".
 use Prim.Native.Nat.{ℕ}
-use mathlib.Core.Bool.{Bool, true, false, cond}
+use mathlib.Core.List.{List}
+use mathlib.Core.Bool.{cond}
 use Rattle.codes.specs.declared.state.State.{State}
 use Rattle.codes.specs.declared.state.State.the-variants.{U0}
 use Rattle.codes.specs.declared.attributes.Parameters.{Parameters}
 use Rattle.codes.specs.Attributes.{parametersOf}
 use Rattle.message.specs.declared.Reference.{Reference}
-use Rattle.timer.specs.declared.Timers.{Timers}
 use Rattle.context.specs.declared.Context.{Context}
 use Rattle.context.specs.States.{same}
 use Rattle.context.specs.Context.{startRow, cleared}
 use Rattle.context.specs.Fit.{consistent}
-use Rattle.timer.specs.declared.Timer.{Timer}
-use Rattle.timer.specs.Timers.{withTimer}
 use Rattle.transitions.specs.declared.Send.{Send}
 use Rattle.transitions.specs.declared.Send.the-variants as Send
+use Rattle.transitions.specs.declared.Stores.{Stores}
+use Rattle.transitions.specs.declared.Stores.the-variants.{Nothing, ValueAndReference, ItsReference}
+use Rattle.transitions.specs.declared.Taken.{Taken}
 use Rattle.transitions.specs.declared.Decision.{Decision}
 use Rattle.transitions.specs.declared.Decision.the-variants.{Take, NoStep, Ignore, Report, TellStatus, SetParameters}
-use Rattle.transitions.specs.Table.{decidedOf}
+use Rattle.transitions.specs.Table.{Row, stepTable, timersAfter, decidedBy}
 use Rattle.call.specs.declared.Event.{Event}
-use Rattle.call.specs.declared.Stores.{Stores}
-use Rattle.call.specs.declared.Stores.the-variants.{Nothing, Call, CallReference}
 use Rattle.call.specs.declared.Seen.{Seen}
 use Rattle.call.specs.declared.Stepped.{Stepped}
 use Rattle.call.specs.Events.{seenOf}
-
--- A row stops a timer and sets a timer.
-abbrev pub timersAfter : Timer → Timer → Timers → Timers
-timersAfter stops sets t = withTimer sets true (withTimer stops false t)
 
 -- Entering a state sets its row. A step that stays in its state keeps the parameters.
 unfoldable pub parametersAfter : Context → State → Parameters
 parametersAfter x next = cond (same (x .state) next) (x .parameters) (startRow next)
 
--- Events 1, 2 and 10 store a transaction value and a reference when taken; CONNECT stores its reference.
-unfoldable pub valueAfter : Stores → ℕ → ℕ
-valueAfter Nothing value = value
-valueAfter (Call stored reference) value = stored
-valueAfter (CallReference stored) value = value
+-- What a row stores it has from the event, and keeps the rest.
+unfoldable pub valueAfter : Stores → (carried kept : ℕ) → ℕ
+valueAfter Nothing carried kept = kept
+valueAfter ValueAndReference carried kept = carried
+valueAfter ItsReference carried kept = kept
 
-unfoldable pub referenceAfter : Stores → Reference → Reference
-referenceAfter Nothing reference = reference
-referenceAfter (Call value stored) reference = stored
-referenceAfter (CallReference stored) reference = stored
+unfoldable pub referenceAfter : Stores → (carried kept : Reference) → Reference
+referenceAfter Nothing carried kept = kept
+referenceAfter ValueAndReference carried kept = carried
+referenceAfter ItsReference carried kept = carried
 
 -- Entering U0 clears.
-unfoldable pub afterwards : Context → State → Timer → Timer → Stores → Context
-afterwards x next stops sets stores =
-    cond (same next U0) cleared
+unfoldable pub afterwards : Context → Taken → Seen → Context
+afterwards x d e =
+    cond (same (d .next) U0) cleared
     (record {
-      state = next;
-      parameters = parametersAfter x next;
-      timers = timersAfter stops sets (x .timers);
-      value = valueAfter stores (x .value);
-      reference = referenceAfter stores (x .reference);
+      state = d .next;
+      parameters = parametersAfter x (d .next);
+      timers = timersAfter d (x .timers);
+      value = valueAfter (d .stores) (e .value) (x .value);
+      reference = referenceAfter (d .stores) (e .reference) (x .reference);
     })
 
 -- Answer 0: taken.
@@ -89,13 +84,17 @@ parametersSet attributes x =
 
 -- What the table's decision brings about.
 unfoldable pub carriedOut : Context → Decision → Seen → Stepped
-carriedOut x (Take next actions sends stops sets) e = took (afterwards x next stops sets (e .stores)) actions sends
+carriedOut x (Take d) e = took (afterwards x d e) (d .actions) (d .sends)
 carriedOut x NoStep e = noStep x
 carriedOut x Ignore e = ignored x
 carriedOut x (Report cause) e = reportedWith cause x
 carriedOut x TellStatus e = statusTold x
 carriedOut x SetParameters e = parametersSet (e .attributes) x
 
--- The step of an event: the table's row for it, carried out.
-unfoldable pub stepValue : Context → Event → Stepped
-stepValue x event = let e : Seen = seenOf event in carriedOut x (decidedOf x (e .number) (e .code)) e
+-- The step of an event by a table: its row for the event, carried out.
+unfoldable pub stepBy : List Row → Context → Event → Stepped
+stepBy table x event = let e : Seen = seenOf event in carriedOut x (decidedBy table x (e .number) (e .code)) e
+
+-- By document 01's table.
+abbrev pub stepValue : Context → Event → Stepped
+stepValue = stepBy stepTable

@@ -1,4 +1,5 @@
-pub mod InState
 pub mod Every
-pub mod Actions
-pub mod Coincide
+pub mod Types
+pub mod Sound
+pub mod Decided
+pub mod InState

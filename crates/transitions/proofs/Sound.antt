@@ -1,0 +1,106 @@
+-- Sound rows: tests that are computed over a table's rows, from which it follows of every step by them that a fit context stays fit, that no timer is set anew while
+-- it runs, that actions are at most their sum, and that only a message is answered by a STATUS. A table that is added is rows, and these tests run over them.
+use Prim.Native.Nat.{ℕ}
+use mathlib.Core.Path.{_≡_, refl}
+use mathlib.Core.List.{List, [], _∷_}
+use mathlib.Core.Bool.{Bool, true, false, cond, not, _&&_, _||_}
+use lib.Dec.{eqb, leb}
+use Rattle.codes.specs.declared.state.State.the-variants.{U0}
+use Rattle.timer.specs.Timers.{isOn, timerNumber, withTimer}
+use Rattle.context.specs.States.{same}
+use Rattle.context.specs.Fit.{timersFit}
+use Rattle.transitions.specs.declared.Send.{Send}
+use Rattle.transitions.specs.declared.Send.the-variants.{Nothing, ImmediateSetup, Setup, TerminationRequest, Status, ErrorStatus}
+use Rattle.transitions.specs.Table.{
+  Effect,
+  send,
+  stop,
+  set,
+  set-unless-running,
+  store-value-and-reference,
+  store-its-reference,
+  Row,
+  row,
+  stepTable,
+  timersAfter,
+}
+use Rattle.transitions.proofs.Every.{Test, passes}
+use Rattle.transitions.proofs.Types.{ofTypes}
+
+-- The kinds of effects: what is sent, stopped, set and stored.
+abbrev kindOf : Effect → ℕ
+kindOf (send m) = 0
+kindOf (stop k) = 1
+kindOf (set k) = 2
+kindOf (set-unless-running k) = 2
+kindOf store-value-and-reference = 3
+kindOf store-its-reference = 3
+
+abbrev hasKind : ℕ → List Effect → Bool
+hasKind kind [] = false
+hasKind kind (e ∷ more) = eqb kind (kindOf e) || hasKind kind more
+
+-- No two effects are of a kind.
+abbrev pub single : List Effect → Bool
+single [] = true
+single (e ∷ more) = not (hasKind (kindOf e) more) && single more
+
+abbrev pub singles : List Row → Bool
+singles [] = true
+singles (row places occasion next actions effects ∷ more) = single effects && singles more
+
+-- Timers that fit the state fit the next one afterwards; unless that is U0, which clears.
+abbrev pub keepsFit : Test
+keepsFit n s t d = same (d .next) U0 || (not (timersFit s t) || timersFit (d .next) (timersAfter d t))
+
+-- No timer is set that runs.
+abbrev pub setsFresh : Test
+setsFresh n s t d = not (timersFit s t) || not (isOn (d .sets) t)
+
+-- No timer is set where U0 is entered, which clears.
+abbrev pub setsElsewhere : Test
+setsElsewhere n s t d = not (same (d .next) U0) || eqb (timerNumber (d .sets)) 0
+
+-- No timer is set by a message.
+abbrev pub setsByEvent : Test
+setsByEvent n s t d = not (eqb n 18) || eqb (timerNumber (d .sets)) 0
+
+-- The actions are at most a number.
+abbrev pub atMost : ℕ → Test
+atMost most n s t d = leb (d .actions) most
+
+-- A STATUS is no row's: GET STATUS and what is reported have one.
+abbrev pub isPlain : Send → Bool
+isPlain Nothing = true
+isPlain ImmediateSetup = true
+isPlain Setup = true
+isPlain TerminationRequest = true
+isPlain (Status cause) = false
+isPlain (ErrorStatus cause) = false
+
+abbrev pub sendsPlain : Test
+sendsPlain n s t d = isPlain (d .sends)
+
+pub record Sound (most : ℕ) (table : List Row) : Type 0 where
+  pub effects-single : singles table ≡ true
+  pub types-known : ofTypes table ≡ true
+  pub fit-kept : passes keepsFit table ≡ true
+  pub set-fresh : passes setsFresh table ≡ true
+  pub set-elsewhere : passes setsElsewhere table ≡ true
+  pub set-by-event : passes setsByEvent table ≡ true
+  pub actions-few : passes (atMost most) table ≡ true
+  pub sent-plain : passes sendsPlain table ≡ true
+
+-- Document 01's rows are sound, and their actions are at most 63: that is all six of them, and the most that a log takes.
+pub document-01 : Sound 63 stepTable
+unfolding stepTable timersFit withTimer
+document-01 = record {
+  effects-single = refl;
+  types-known = refl;
+  fit-kept = refl;
+  set-fresh = refl;
+  set-elsewhere = refl;
+  set-by-event = refl;
+  actions-few = refl;
+  sent-plain = refl;
+}
