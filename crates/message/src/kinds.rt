@@ -27,6 +27,7 @@ use crate::Half;
 use crate::Identity;
 use crate::Message;
 use crate::Reference;
+use codes::message_type;
 use element::Counted;
 use element::Found;
 use element::counted_at;
@@ -257,20 +258,20 @@ fn read_termination_request(octets: &[u8]) -> Body
     whole(octets, 6, Message::TerminationRequest { reference })
 }
 
-// The message of a type code without bits 7 and 8, table 9.1.
+// The message of a type without bits 7 and 8, table 9.1; the ranges are the codes that the table leaves unused.
 pub(crate) fn read_body(octets: &[u8], kind: u8) -> Body
     ensures { λ r. ⌜ r ≡ bodyOf (now (octets .entry)) kind ⌝ }
 {
     match kind {
-        0x31 => read_immediate_setup(octets),
-        0x32 => read_setup(octets),
-        0x33 => read_connect(octets),
-        0x34 => read_termination(octets),
-        0x35 => read_termination_request(octets),
-        0x36 => read_termination_reject(octets),
-        0x38 => read_status(octets),
-        0x39 => read_get_status(octets),
-        0x3a => read_set_parameter(octets),
+        message_type::IMMEDIATE_SETUP => read_immediate_setup(octets),
+        message_type::SETUP => read_setup(octets),
+        message_type::CONNECT => read_connect(octets),
+        message_type::TERMINATION => read_termination(octets),
+        message_type::TERMINATION_REQUEST => read_termination_request(octets),
+        message_type::TERMINATION_REJECT => read_termination_reject(octets),
+        message_type::STATUS => read_status(octets),
+        message_type::GET_STATUS => read_get_status(octets),
+        message_type::SET_PARAMETER => read_set_parameter(octets),
         0..=0x30 | 0x37..=0x37 | 0x3b..=0xff => Body::Wrong(Fault::UnknownType),
     }
 }

@@ -20,31 +20,13 @@ use crate::Numbers;
 use crate::Optional;
 use crate::Place;
 use crate::Three;
+use codes::message_type;
 use element::Run;
 use message::Classmark;
 use message::Half;
 use message::Identity;
 use message::Message;
 use message::Reference;
-
-// The message types of table 9.1.
-pub(crate) const IMMEDIATE_SETUP: u8 = 0x31;
-
-pub(crate) const SETUP: u8 = 0x32;
-
-pub(crate) const CONNECT: u8 = 0x33;
-
-pub(crate) const TERMINATION: u8 = 0x34;
-
-pub(crate) const TERMINATION_REQUEST: u8 = 0x35;
-
-pub(crate) const TERMINATION_REJECT: u8 = 0x36;
-
-pub(crate) const STATUS: u8 = 0x38;
-
-pub(crate) const GET_STATUS: u8 = 0x39;
-
-pub(crate) const SET_PARAMETER: u8 = 0x3a;
 
 fn three_of(classmark: Classmark) -> Three
     ensures { λ r. ⌜ r ≡ threeOf classmark ⌝ }
@@ -167,7 +149,7 @@ fn immediate(
         classmark: three_of(classmark),
         identity: place_of(identity),
         reference: four_of(reference),
-        ..blank(IMMEDIATE_SETUP, flag, value)
+        ..blank(message_type::IMMEDIATE_SETUP, flag, value)
     }
 }
 
@@ -177,7 +159,7 @@ fn asking(flag: u8, value: u8, identity: Identity) -> Numbers
 {
     Numbers {
         identity: identity_place(identity),
-        ..blank(GET_STATUS, flag, value)
+        ..blank(message_type::GET_STATUS, flag, value)
     }
 }
 
@@ -190,7 +172,7 @@ fn setting(flag: u8, value: u8, attributes: u8) -> Numbers
             there: 0,
             value: attributes,
         },
-        ..blank(SET_PARAMETER, flag, value)
+        ..blank(message_type::SET_PARAMETER, flag, value)
     }
 }
 
@@ -203,7 +185,7 @@ pub(crate) fn numbers_of(bit: bool, value: u8, message: Message) -> Numbers
         Message::Connect {
             reference,
             originator,
-        } => referring(CONNECT, flag, value, reference, originator),
+        } => referring(message_type::CONNECT, flag, value, reference, originator),
         Message::GetStatus { identity } => asking(flag, value, identity),
         Message::ImmediateSetup {
             key,
@@ -212,17 +194,24 @@ pub(crate) fn numbers_of(bit: bool, value: u8, message: Message) -> Numbers
             reference,
         } => immediate(flag, value, key, classmark, identity, reference),
         Message::SetParameter { attributes } => setting(flag, value, attributes),
-        Message::Setup { reference } => referring(SETUP, flag, value, reference, 0),
+        Message::Setup { reference } => referring(message_type::SETUP, flag, value, reference, 0),
         Message::Status {
             cause,
             state,
             attributes,
-        } => caused(STATUS, flag, value, cause, state, attributes),
+        } => caused(message_type::STATUS, flag, value, cause, state, attributes),
         Message::Termination { cause } => {
-            caused(TERMINATION, flag, value, cause, Half::Absent, Half::Absent)
+            caused(
+                message_type::TERMINATION,
+                flag,
+                value,
+                cause,
+                Half::Absent,
+                Half::Absent,
+            )
         }
         Message::TerminationReject { cause } => caused(
-            TERMINATION_REJECT,
+            message_type::TERMINATION_REJECT,
             flag,
             value,
             cause,
@@ -230,7 +219,7 @@ pub(crate) fn numbers_of(bit: bool, value: u8, message: Message) -> Numbers
             Half::Absent,
         ),
         Message::TerminationRequest { reference } => {
-            referring(TERMINATION_REQUEST, flag, value, reference, 0)
+            referring(message_type::TERMINATION_REQUEST, flag, value, reference, 0)
         }
     }
 }

@@ -20,6 +20,7 @@ ghost use Rattle.writing.specs.Bodies.{
   statusFits,
 };
 use crate::Wrote;
+use codes::message_type;
 use element::Run;
 use message::Classmark;
 use message::Half;
@@ -103,7 +104,7 @@ fn write_connect(buffer: &mut [u8], head: u8, reference: Reference, originator: 
         return Wrote::OutOfRange;
     }
     buffer[0] = head;
-    buffer[1] = 0x33;
+    buffer[1] = message_type::CONNECT;
     buffer[2] = reference.first;
     buffer[3] = reference.second;
     buffer[4] = reference.third;
@@ -120,7 +121,7 @@ fn write_get_status(buffer: &mut [u8], source: &[u8], head: u8, identity: Identi
     match identity {
         Identity::Absent => {
             buffer[0] = head;
-            buffer[1] = 0x39;
+            buffer[1] = message_type::GET_STATUS;
             Wrote::Written(2)
         }
         Identity::Present(run) => write_identified(buffer, source, head, run),
@@ -138,7 +139,7 @@ fn write_identified(buffer: &mut [u8], source: &[u8], head: u8, identity: Run) -
     let start = identity.start;
     let count = identity.count;
     buffer[0] = head;
-    buffer[1] = 0x39;
+    buffer[1] = message_type::GET_STATUS;
     buffer[2] = 0x17;
     buffer[3] = count as u8;
     copy_to(buffer, 4, source, start, count);
@@ -167,7 +168,7 @@ fn write_immediate_setup(
     let start = identity.start;
     let count = identity.count;
     buffer[0] = head;
-    buffer[1] = 0x31;
+    buffer[1] = message_type::IMMEDIATE_SETUP;
     buffer[2] = 16 * key;
     buffer[3] = 3;
     buffer[4] = classmark.first;
@@ -188,7 +189,7 @@ fn write_set_parameter(buffer: &mut [u8], head: u8, attributes: u8) -> Wrote
         return Wrote::OutOfRange;
     }
     buffer[0] = head;
-    buffer[1] = 0x3a;
+    buffer[1] = message_type::SET_PARAMETER;
     buffer[2] = attributes;
     Wrote::Written(3)
 }
@@ -259,7 +260,7 @@ fn write_status(
     let start = cause.start;
     let count = cause.count;
     buffer[0] = head;
-    buffer[1] = 0x38;
+    buffer[1] = message_type::STATUS;
     buffer[2] = count as u8;
     copy_to(buffer, 3, source, start, count);
     let place = put_half(buffer, 3 + count, 0xa, state);
@@ -285,14 +286,36 @@ pub(crate) fn write_body(buffer: &mut [u8], source: &[u8], head: u8, message: Me
             reference,
         } => write_immediate_setup(buffer, source, head, key, classmark, identity, reference),
         Message::SetParameter { attributes } => write_set_parameter(buffer, head, attributes),
-        Message::Setup { reference } => write_reference(buffer, head, 0x32, reference),
+        Message::Setup { reference } => write_reference(
+            buffer,
+            head,
+            message_type::SETUP,
+            reference,
+        ),
         Message::Status {
             cause,
             state,
             attributes,
         } => write_status(buffer, source, head, cause, state, attributes),
-        Message::Termination { cause } => write_cause(buffer, source, head, 0x34, cause),
-        Message::TerminationReject { cause } => write_cause(buffer, source, head, 0x36, cause),
-        Message::TerminationRequest { reference } => write_reference(buffer, head, 0x35, reference),
+        Message::Termination { cause } => write_cause(
+            buffer,
+            source,
+            head,
+            message_type::TERMINATION,
+            cause,
+        ),
+        Message::TerminationReject { cause } => write_cause(
+            buffer,
+            source,
+            head,
+            message_type::TERMINATION_REJECT,
+            cause,
+        ),
+        Message::TerminationRequest { reference } => write_reference(
+            buffer,
+            head,
+            message_type::TERMINATION_REQUEST,
+            reference,
+        ),
     }
 }

@@ -1,11 +1,11 @@
 -- GSM 04.69, 9.4.3, table 9.4: causes. Any other value is an unspecific cause.
-use Prim.Native.Nat.{ℕ, _-_}
+use Prim.Native.Nat.{ℕ, _%_}
 use mathlib.Core.List.{List, [], _∷_}
 use mathlib.Core.Bool.{cond, _&&_}
 use lib.Dec.{leb, ltb}
 use Rattle.octets.specs.Rows.{rows}
-use Rattle.codes.specs.declared.cause.Cause.{Cause}
-use Rattle.codes.specs.declared.cause.Cause.the-variants.{
+use Rattle.causes.specs.declared.Cause.{Cause}
+use Rattle.causes.specs.declared.Cause.the-variants.{
   IllegalMs,
   ImeiNotAccepted,
   IllegalMe,
@@ -72,4 +72,4 @@ causeOf number = rows number (retryOrUnspecific number) causes
 
 -- <cause> ::= 1 cause_part [diagnostics] | 0 cause_part <cause>. More than one cause part: an unspecific cause.
 unfoldable pub causeSaid : ℕ → Cause
-causeSaid first = cond (ltb first 128) Unspecific (causeOf (first - 128))
+causeSaid first = cond (ltb first 128) Unspecific (causeOf (first % 128))

@@ -1,9 +1,9 @@
 -- `retry_or_unspecific` meets its contract: the two tests are the definition's, one at a time.
 use borrow.Author.Tests.{le-leb, lt-leb}
 use mathlib.Core.Bool.{and-false}
-use Rattle.codes.specs.Causes.{retryOrUnspecific}
-use Rattle.codes.proofs.cause.retry_or_unspecific.Statement.{statement}
-use Rattle.codes.proofs.cause.retry_or_unspecific.Tie as tie
+use Rattle.causes.specs.Causes.{retryOrUnspecific}
+use Rattle.causes.proofs.retry_or_unspecific.Statement.{statement}
+use Rattle.causes.proofs.retry_or_unspecific.Tie as tie
 
 pub retry-or-unspecific-spec : {M : Type 1} → statement M
 unfolding retryOrUnspecific

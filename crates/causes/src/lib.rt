@@ -1,6 +1,6 @@
 // Causes, 9.4.3, table 9.4: what the cause part of a cause element says.
 ghost use mathlib.Core.Path.{_≡_};
-ghost use Rattle.codes.specs.Causes.{causeOf, causeSaid, retryOrUnspecific};
+ghost use Rattle.causes.specs.Causes.{causeOf, causeSaid, retryOrUnspecific};
 
 pub enum Cause {
     IllegalMs,
@@ -85,5 +85,5 @@ pub fn cause_said(first: u8) -> Cause
     if first < 128 {
         return Cause::Unspecific;
     }
-    cause_of(first - 128)
+    cause_of(first % 128)
 }

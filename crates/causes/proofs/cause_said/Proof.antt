@@ -1,9 +1,9 @@
 -- `cause_said` meets its contract.
 use borrow.Author.Needs.{needs}
 use borrow.Author.Tests.{lt-ltb, le-ltb}
-use Rattle.codes.specs.Causes.{causeSaid}
-use Rattle.codes.proofs.cause.cause_said.Statement.{statement}
-use Rattle.codes.proofs.cause.cause_said.Tie as tie
+use Rattle.causes.specs.Causes.{causeSaid}
+use Rattle.causes.proofs.cause_said.Statement.{statement}
+use Rattle.causes.proofs.cause_said.Tie as tie
 
 pub cause-said-spec : {M : Type 1} → statement M
 unfolding causeSaid

@@ -2,9 +2,9 @@
 use borrow.Author.Needs.{needs}
 use mathlib.Core.Path.{_∙_}
 use Rattle.octets.proofs.Rows.{no-row}
-use Rattle.codes.specs.Causes.{causeOf, causes, retryOrUnspecific}
-use Rattle.codes.proofs.cause.cause_of.Statement.{statement}
-use Rattle.codes.proofs.cause.cause_of.Tie as tie
+use Rattle.causes.specs.Causes.{causeOf, causes, retryOrUnspecific}
+use Rattle.causes.proofs.cause_of.Statement.{statement}
+use Rattle.causes.proofs.cause_of.Tie as tie
 
 pub cause-of-spec : {M : Type 1} → statement M
 unfolding causeOf
