@@ -123,8 +123,8 @@ fn report(context: Context, cause: u8) -> Stepped
 fn tell_status(context: Context) -> Stepped
     ensures { λ r. ⌜ r ≡ statusTold context ⌝ }
 {
-    let parameters = context.parameters;
-    if parameters.comm {
+    let told = context.parameters;
+    if told.comm {
         return Stepped {
             answer: 0,
             context,

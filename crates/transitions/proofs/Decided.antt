@@ -2,14 +2,14 @@
 use Prim.Native.Nat.{ℕ}
 use mathlib.Core.Path.{_≡_, refl, sym}
 use mathlib.Core.List.{List}
-use mathlib.Core.Bool.{Bool, true, false, not, _||_}
+use mathlib.Core.Bool.{Bool, true, false, cond, not, _||_}
 use lib.Dec.{eqb, leb}
-use borrow.Author.Tests.{not-true, eqb-true}
+use borrow.Author.Tests.{not-true}
 use Rattle.octets.proofs.Choice.{never}
 use Rattle.codes.specs.declared.state.State.{State}
 use Rattle.codes.specs.declared.state.State.the-variants.{U0}
 use Rattle.context.specs.declared.Context.{Context}
-use Rattle.timer.specs.Timers.{isOn, timerNumber}
+use Rattle.timer.specs.Timers.{isOn, timerNumber, runningAmong}
 use Rattle.context.specs.States.{same}
 use Rattle.context.specs.Fit.{fitOf}
 use Rattle.context.proofs.Whole.{if-so}
@@ -17,9 +17,9 @@ use Rattle.context.proofs.Fit.{fit-timers}
 use Rattle.transitions.specs.declared.Taken.{Taken}
 use Rattle.transitions.specs.declared.Decision.{Decision}
 use Rattle.transitions.specs.declared.Decision.the-variants.{Take, NoStep, Ignore, Report, TellStatus, SetParameters}
-use Rattle.transitions.specs.Table.{Row, decidedBy}
+use Rattle.transitions.specs.Table.{Row, timersAfter, decidedBy}
 use Rattle.transitions.proofs.Every.{Test, decided-holds}
-use Rattle.transitions.proofs.Sound.{keepsFit, setsFresh, setsElsewhere, setsByEvent, atMost, isPlain, sendsPlain, Sound}
+use Rattle.transitions.proofs.Sound.{keepsFit, setsFresh, rightly, setsRightly, atMost, isPlain, sendsPlain, Sound}
 
 -- What holds of a row that is taken; the other decisions take none.
 abbrev pub OfTaken : (Taken → Type 0) → Decision → Type 0
@@ -29,6 +29,19 @@ OfTaken P Ignore = Unit {0}
 OfTaken P (Report cause) = Unit {0}
 OfTaken P TellStatus = Unit {0}
 OfTaken P SetParameters = Unit {0}
+
+-- An event that is no message takes a row that sends no STATUS, or has no step.
+abbrev pub Plain : Decision → Type 0
+Plain (Take d) = isPlain (d .sends) ≡ true
+Plain NoStep = Unit {0}
+Plain Ignore = Unit {0}
+Plain (Report cause) = ⊥
+Plain TellStatus = ⊥
+Plain SetParameters = ⊥
+
+abbrev pub SetRightly : Context → Taken → Type 0
+SetRightly x d =
+    rightly (timerNumber (d .sets)) (runningAmong (x .timers)) (cond (same (d .next) U0) 0 (runningAmong (timersAfter d (x .timers)))) ≡ true
 
 abbrev pub Keeps : Context → Decision → Type 0
 Keeps x (Take d) = keepsFit 0 (x .state) (x .timers) d ≡ true
@@ -54,26 +67,10 @@ module _ (most : ℕ) (table : List Row) (sound : Sound most table) (x : Context
       decided-holds setsFresh (λ k. OfTaken (λ d. isOn (d .sets) (x .timers) ≡ false)) x
       (λ k d e. not-true _ (if-so _ _ e (fit-timers x fit))) (λ k. tt) (λ cause. tt) table (sound .set-fresh) tt tt (λ u. tt)
 
-  -- None is set where U0 is entered.
-  pub sets-elsewhere : (n code : ℕ) → OfTaken (λ d. same (d .next) U0 ≡ true → timerNumber (d .sets) ≡ 0) (decidedBy table x n code)
-  sets-elsewhere =
-      decided-holds setsElsewhere (λ k. OfTaken (λ d. same (d .next) U0 ≡ true → timerNumber (d .sets) ≡ 0)) x
-      (λ k d e u. eqb-true _ 0 (if-so (same (d .next) U0) _ e u)) (λ k. tt) (λ cause. tt) table (sound .set-elsewhere) tt tt (λ u. tt)
-
-  -- A message sets none.
-  pub message-sets-none : (code : ℕ) → OfTaken (λ d. timerNumber (d .sets) ≡ 0) (decidedBy table x 18 code)
-  message-sets-none code =
-      decided-holds setsByEvent (λ k c. eqb k 18 ≡ true → OfTaken (λ d. timerNumber (d .sets) ≡ 0) c) x
-      (λ k d e n. eqb-true _ 0 (if-so (eqb k 18) _ e n)) (λ k n. tt) (λ cause n. tt) table (sound .set-by-event) (λ n. tt) (λ n. tt) (λ u n. tt) 18 code refl
-
-  -- An event that is no message is no STATUS's: it takes a row that sends none, or has no step.
-  abbrev pub Plain : Decision → Type 0
-  Plain (Take d) = isPlain (d .sends) ≡ true
-  Plain NoStep = Unit {0}
-  Plain Ignore = Unit {0}
-  Plain (Report cause) = ⊥
-  Plain TellStatus = ⊥
-  Plain SetParameters = ⊥
+  -- The timer that is set did not run, and runs afterwards; where none is set, the one that runs is the one that ran.
+  pub sets-rightly : fitOf x ≡ true → (n code : ℕ) → OfTaken (SetRightly x) (decidedBy table x n code)
+  sets-rightly fit =
+      decided-holds setsRightly (λ k. OfTaken (SetRightly x)) x (λ k d e. if-so _ _ e (fit-timers x fit)) (λ k. tt) (λ cause. tt) table (sound .set-rightly) tt tt (λ u. tt)
 
   pub event-plain : (n code : ℕ) → eqb n 18 ≡ false → Plain (decidedBy table x n code)
   event-plain =

@@ -6,7 +6,7 @@ use mathlib.Core.List.{List, [], _∷_}
 use mathlib.Core.Bool.{Bool, true, false, cond, not, _&&_, _||_}
 use lib.Dec.{eqb, leb}
 use Rattle.codes.specs.declared.state.State.the-variants.{U0}
-use Rattle.timer.specs.Timers.{isOn, timerNumber, withTimer}
+use Rattle.timer.specs.Timers.{isOn, timerNumber, runningAmong, withTimer}
 use Rattle.context.specs.States.{same}
 use Rattle.context.specs.Fit.{timersFit}
 use Rattle.transitions.specs.declared.Send.{Send}
@@ -28,7 +28,7 @@ use Rattle.transitions.proofs.Every.{Test, passes}
 use Rattle.transitions.proofs.Types.{ofTypes}
 
 -- The kinds of effects: what is sent, stopped, set and stored.
-abbrev kindOf : Effect → ℕ
+abbrev pub kindOf : Effect → ℕ
 kindOf (send m) = 0
 kindOf (stop k) = 1
 kindOf (set k) = 2
@@ -36,7 +36,7 @@ kindOf (set-unless-running k) = 2
 kindOf store-value-and-reference = 3
 kindOf store-its-reference = 3
 
-abbrev hasKind : ℕ → List Effect → Bool
+abbrev pub hasKind : ℕ → List Effect → Bool
 hasKind kind [] = false
 hasKind kind (e ∷ more) = eqb kind (kindOf e) || hasKind kind more
 
@@ -57,13 +57,13 @@ keepsFit n s t d = same (d .next) U0 || (not (timersFit s t) || timersFit (d .ne
 abbrev pub setsFresh : Test
 setsFresh n s t d = not (timersFit s t) || not (isOn (d .sets) t)
 
--- No timer is set where U0 is entered, which clears.
-abbrev pub setsElsewhere : Test
-setsElsewhere n s t d = not (same (d .next) U0) || eqb (timerNumber (d .sets)) 0
+-- By numbers of timers, of what is set, what ran before and what runs after: what is set did not run, and runs; where none is set, what runs is what ran.
+abbrev pub rightly : ℕ → ℕ → ℕ → Bool
+rightly started before after = cond (eqb started 0) (eqb after 0 || eqb after before) (eqb after started && not (eqb before started))
 
--- No timer is set by a message.
-abbrev pub setsByEvent : Test
-setsByEvent n s t d = not (eqb n 18) || eqb (timerNumber (d .sets)) 0
+abbrev pub setsRightly : Test
+setsRightly n s t d =
+    not (timersFit s t) || rightly (timerNumber (d .sets)) (runningAmong t) (cond (same (d .next) U0) 0 (runningAmong (timersAfter d t)))
 
 -- The actions are at most a number.
 abbrev pub atMost : ℕ → Test
@@ -86,21 +86,19 @@ pub record Sound (most : ℕ) (table : List Row) : Type 0 where
   pub types-known : ofTypes table ≡ true
   pub fit-kept : passes keepsFit table ≡ true
   pub set-fresh : passes setsFresh table ≡ true
-  pub set-elsewhere : passes setsElsewhere table ≡ true
-  pub set-by-event : passes setsByEvent table ≡ true
+  pub set-rightly : passes setsRightly table ≡ true
   pub actions-few : passes (atMost most) table ≡ true
   pub sent-plain : passes sendsPlain table ≡ true
 
 -- Document 01's rows are sound, and their actions are at most 63: that is all six of them, and the most that a log takes.
 pub document-01 : Sound 63 stepTable
-unfolding stepTable timersFit withTimer
+unfolding stepTable timersFit runningAmong withTimer
 document-01 = record {
   effects-single = refl;
   types-known = refl;
   fit-kept = refl;
   set-fresh = refl;
-  set-elsewhere = refl;
-  set-by-event = refl;
+  set-rightly = refl;
   actions-few = refl;
   sent-plain = refl;
 }

@@ -22,7 +22,7 @@ use Rattle.context.specs.declared.Context.{Context}
 use Rattle.context.specs.States.{same}
 use Rattle.timer.specs.declared.Timer.{Timer}
 use Rattle.timer.specs.declared.Timer.the-variants.{NoTimer, MmEst, Term, ConnReq, NoChannel}
-use Rattle.timer.specs.Timers.{isOn, withTimer}
+use Rattle.timer.specs.Timers.{timerNumber, isOn, withTimer}
 use Rattle.transitions.specs.declared.Send.{Send}
 use Rattle.transitions.specs.declared.Send.the-variants.{Nothing, ImmediateSetup, Setup, TerminationRequest}
 use Rattle.transitions.specs.declared.Stores.{Stores}
@@ -214,3 +214,12 @@ decidedBy table x number code = decidedIn table (x .state) x number code
 -- Document 01's table.
 abbrev pub decidedOf : Context → ℕ → ℕ → Decision
 decidedOf = decidedBy stepTable
+
+-- The number of the timer that is set by what is decided, 0 for none.
+abbrev pub setBy : Decision → ℕ
+setBy (Take d) = timerNumber (d .sets)
+setBy NoStep = 0
+setBy Ignore = 0
+setBy (Report cause) = 0
+setBy TellStatus = 0
+setBy SetParameters = 0
