@@ -2,11 +2,11 @@
 use Prim.Native.Nat.{ℕ, _/_, _%_, _≤_}
 use mathlib.Core.Path.{_≡_, refl, sym, ap, subst, _∙_}
 use mathlib.Core.List.{List, [], _∷_}
-use mathlib.Core.Bool.{Bool, true, false, cond, not, _||_}
+use mathlib.Core.Bool.{Bool, true, false, cond}
 use native.Mathlib.Omega.{arith}
 use lib.Dec.{eqb, leb, ltb}
 use lib.ListN.{length, getD}
-use borrow.Author.Tests.{le-ltb, eqb-false, not-false}
+use borrow.Author.Tests.{le-ltb, eqb-false}
 use Rattle.octets.specs.Rows.{rows}
 use Rattle.octets.proofs.Choice.{at-cond, never}
 use Rattle.octets.proofs.Rows.{Absent, other}
@@ -48,12 +48,12 @@ use Rattle.message.specs.Reading.{
   readMessage,
 }
 use Rattle.context.specs.declared.Context.{Context}
-use Rattle.context.specs.States.{same, flagOf}
+use Rattle.context.specs.States.{same}
 use Rattle.transitions.specs.declared.Decision.{Decision}
 use Rattle.transitions.specs.declared.Decision.the-variants.{Report}
 use Rattle.transitions.specs.Table.{stepTable, typesIn, heardIn, decidedIn, decidedOf}
-use Rattle.received.specs.Received.{transactionIs, isNotOurs, causeIn, typeCause}
-use Rattle.received.proofs.Rules.{either-false, first-false}
+use Rattle.received.specs.Received.{causeIn, typeCause}
+use Rattle.received.proofs.Rules.{Ours}
 
 abbrev FourBody : Body → Type 0
 FourBody (Is message) = Unit {0}
@@ -126,21 +126,7 @@ unknown s U4 x code u a = sym (other code (Report 97) (typesIn U4 x) (a .1 .1 .1
 unknown s U5 x code u a = sym (other code (Report 97) (typesIn U5 x) (a .1 .1 .1 .1 .1 .0, (a .1 .1 .1 .0, (a .1 .1 .1 .1 .1 .1 .1 .0, (a .1 .1 .1 .1 .1 .1 .1 .1 .0, a)))))
 unknown s U6 x code u a = sym (other code (Report 97) (typesIn U6 x) (a .1 .1 .1 .0, (a .1 .1 .1 .1 .1 .1 .1 .0, (a .1 .1 .1 .1 .1 .1 .1 .1 .0, a))))
 
-module _ (x : Context) (s : List ℕ) (ours : isNotOurs x s ≡ false) (none : typeCause x (getD s 1 0) ≡ 0) where
-  call : same (x .state) U0 ≡ false
-  unfolding isNotOurs
-  call = first-false (same (x .state) U0) _ ours
-
-  two : ltb (length s) 2 ≡ false
-  unfolding isNotOurs
-  two = first-false (ltb (length s) 2) _ (either-false (same (x .state) U0) _ ours)
-
-  broadcast : eqb (getD s 0 0 % 16) 1 ≡ true
-  unfolding isNotOurs
-  broadcast =
-      not-false _
-      (first-false (not (eqb (getD s 0 0 % 16) 1)) _ (either-false (ltb (length s) 2) _ (either-false (same (x .state) U0) _ ours)))
-
+module _ (x : Context) (s : List ℕ) (ours : Ours x s) (none : typeCause x (getD s 1 0) ≡ 0) where
   apart : (n : ℕ) → n ≡ 97 → n ≡ 0 → ⊥
   apart n a b = omega arith
 
@@ -159,7 +145,7 @@ module _ (x : Context) (s : List ℕ) (ours : isNotOurs x s ≡ false) (none : t
   unfolding typeCause decidedOf causeIn
   typed a =
       apart (typeCause x (getD s 1 0))
-      (rw (low, unknown s (x .state) x (getD s 1 0 % 64) call a)) none
+      (rw (low, unknown s (x .state) x (getD s 1 0 % 64) (ours .calling) a)) none
 
   read-as : (flag : Bool) (value : ℕ) (b : Body) → FourBody b → Four (readAs flag value b)
   read-as flag value (Is message) p = p
@@ -168,5 +154,5 @@ module _ (x : Context) (s : List ℕ) (ours : isNotOurs x s ≡ false) (none : t
   pub fault-four : length s ≤ 251 → Four (readMessage s)
   unfolding readMessage bodyOf
   fault-four h =
-      rw (le-ltb 251 (length s) h, two, broadcast, low)
+      rw (le-ltb 251 (length s) h, ours .two, ours .broadcast, low)
       (read-as _ _ (bodyOf s (getD s 1 0 % 64)) (among (getD s 1 0 % 64) _ (kinds s) (bodies s) (λ a. elim (typed a) [ ])))

@@ -4,27 +4,13 @@ use mathlib.Core.Path.{_≡_, refl, sym}
 use mathlib.Core.Bool.{Bool, true, false, cond, not, _&&_, _||_}
 use mathlib.Core.List.{List}
 use lib.Dec.{eqb}
-use lib.ListN.{length, getD}
+use lib.ListN.{length}
 use borrow.Author.Tests.{not-true, eqb-true, eqb-false, eq-eqb, ne-eqb}
 use Rattle.octets.proofs.Choice.{at-cond, never}
 use Rattle.codes.specs.declared.state.State.{State}
 use Rattle.codes.specs.declared.state.State.the-variants.{U0}
 use Rattle.codes.specs.Attributes.{parametersOf}
 use Rattle.message.specs.declared.Message.{Message}
-use Rattle.message.specs.declared.Message.the-variants.{
-  Connect,
-  GetStatus,
-  ImmediateSetup,
-  SetParameter,
-  Setup,
-  Status,
-  Termination,
-  TerminationReject,
-  TerminationRequest,
-}
-use Rattle.message.specs.declared.Reading.{Reading}
-use Rattle.message.specs.declared.Reading.the-variants.{Is as Reads, Unreadable, TooLong}
-use Rattle.message.specs.Reading.{readMessage}
 use Rattle.context.specs.declared.Timers.{Timers}
 use Rattle.context.specs.declared.Context.{Context}
 use Rattle.context.specs.States.{same}
@@ -42,13 +28,16 @@ use Rattle.call.specs.declared.Event.the-variants.{Received}
 use Rattle.call.specs.declared.Stores.{Stores}
 use Rattle.call.specs.declared.Seen.{Seen}
 use Rattle.call.specs.declared.Stepped.{Stepped as Taken}
+use Rattle.call.specs.Due.{settled}
 use Rattle.call.specs.Events.{seenMessage, seenOf}
 use Rattle.call.specs.Step.{withTimer, timersAfter, afterwards, ignored, noStep, reportedWith, statusTold, parametersSet, carriedOut, stepValue}
 use Rattle.reply.specs.declared.Own.{Own}
-use Rattle.received.specs.Received.{isNotOurs, typeCause, namesOther, disowns, understoodOf, onReading, heardOf}
+use Rattle.received.specs.Due.{dueOf}
+use Rattle.received.proofs.Rules.{every-due}
 use Rattle.radio.specs.declared.Told.{Told}
 use Rattle.radio.specs.declared.Told.the-variants.{Is, NoEvent}
-use Rattle.radio.specs.Step.{eventOf, onEvent, reactedTo, refusalOf, reacted, refused}
+use Rattle.radio.specs.Step.{eventOf, toldDue, dueTo, reactedTo, refusalOf, reacted, refused}
+use Rattle.radio.proofs.Numbers.{message-number}
 use Rattle.radio.proofs.Reacting.{step-by}
 use Rattle.table.specs.Log.{Log, Entry, Moment, begin, timerAfter, timeOf, next}
 use Rattle.table.specs.Points.{momentAfter}
@@ -153,8 +142,8 @@ module _ (x : Context) where
     unfolding stepValue
     event-right event = decided-right (seenOf event .number) (seenOf event .code) (seenOf event)
 
-    told-event-right : (t : Told) → Right (setByTold x t) (onEvent x t)
-    unfolding onEvent
+    told-event-right : (t : Told) → Right (setByTold x t) (settled x (toldDue t))
+    unfolding settled toldDue
     told-event-right (Is event) = event-right event
     told-event-right NoEvent = none-right
 
@@ -168,47 +157,21 @@ module _ (x : Context) where
         sets-none : (k set : ℕ) → eqb k 18 ≡ true → (not (eqb k 18) || eqb set 0) ≡ true → cond (eqb k 12 && x .timers .nochannel) 0 set ≡ 0
         sets-none k set h q = let z : k ≡ 18 = eqb-true k 18 h in let w : set ≡ 0 = eqb-true set 0 (rw z at q) in rw (z, w)
 
-    message-number : (m : Message) → seenMessage m .number ≡ 18
-    unfolding seenMessage
-    message-number (Connect reference originator) = refl
-    message-number (GetStatus identity) = refl
-    message-number (ImmediateSetup key classmark identity reference) = refl
-    message-number (SetParameter attributes) = refl
-    message-number (Setup reference) = refl
-    message-number (Status cause state attributes) = refl
-    message-number (Termination cause) = refl
-    message-number (TerminationReject cause) = refl
-    message-number (TerminationRequest reference) = refl
-
     received-right : (mode : ℕ) (m : Message) → Right 0 (stepValue x (Received mode m))
     unfolding seenOf
     received-right mode m =
         let p : Right (setBy x (seenMessage m .number) (decidedOf x (seenMessage m .number) (seenMessage m .code))) (stepValue x (Received mode m)) = event-right (Received mode m) in
         rw (message-number m, silent (seenMessage m .code)) at p
 
-    understood-right : (identity : List ℕ) (mode : ℕ) (s : List ℕ) (m : Message) → Right 0 (understoodOf identity x mode s m)
-    unfolding understoodOf
-    understood-right identity mode s m =
-        at-cond (Right 0) (eqb mode 1 && namesOther identity s m) _ _ (λ e. ignored-right)
-        (λ e. at-cond (Right 0) (disowns m) _ _ (λ q. reported-right 95) (λ q. received-right mode m))
-
-    reading-right : (identity : List ℕ) (mode : ℕ) (s : List ℕ) (r : Reading) → Right 0 (onReading x (understoodOf identity x mode s) r)
-    unfolding onReading
-    reading-right identity mode s (Reads flag value m) = understood-right identity mode s m
-    reading-right identity mode s (Unreadable fault) = reported-right 96
-    reading-right identity mode s TooLong = reported-right 96
-
-    heard-right : (identity : List ℕ) (mode : ℕ) (s : List ℕ) → Right 0 (heardOf identity x mode s)
-    unfolding heardOf
-    heard-right identity mode s =
-        at-cond (Right 0) (isNotOurs x s) _ _ (λ e. ignored-right)
-        (λ e. at-cond (Right 0) (eqb (typeCause x (getD s 1 0)) 0) _ _ (λ q. reading-right identity mode s (readMessage s)) (λ q. reported-right (typeCause x (getD s 1 0))))
+    heard-right : (identity : List ℕ) (mode : ℕ) (s : List ℕ) → Right 0 (settled x (dueOf identity x mode s))
+    unfolding settled
+    heard-right identity mode s = every-due (λ d. Right 0 (settled x d)) ignored-right reported-right received-right identity x mode s
 
 -- ---- no row sets anew a timer that runs
 
 step-right : (own : Own) (identity : List ℕ) (x : Context) (e : Event) → fitOf x ≡ true
     → rightly (setsTimer own identity x e) (runs x) (runs (stepped own identity x e .context)) ≡ true
-unfolding setsTimer reactedTo
+unfolding setsTimer reactedTo dueTo
 step-right own identity x e fit =
     let all : stepped own identity x e
     ≡ cond (eqb (refusalOf x (own .key) (length identity) (e .happened) (length (e .octets)) 255) 0)
@@ -219,7 +182,7 @@ step-right own identity x e fit =
   where
     go : (a m : Bool) → rightly (cond a (cond m 0 (setByTold x (eventOf (e .happened .number) (e .happened .value) (e .happened .reference)))) 0) (runs x)
         (runs (cond a (reacted own identity (e .octets)
-        (cond m (heardOf identity x (e .happened .mode) (e .octets)) (onEvent x (eventOf (e .happened .number) (e .happened .value) (e .happened .reference)))))
+        (settled x (cond m (dueOf identity x (e .happened .mode) (e .octets)) (toldDue (eventOf (e .happened .number) (e .happened .value) (e .happened .reference))))))
         (refused (refusalOf x (own .key) (length identity) (e .happened) (length (e .octets)) 255) x) .context)) ≡ true
     go false m = stays (runs x)
     go true true = heard-right x fit identity (e .happened .mode) (e .octets)
