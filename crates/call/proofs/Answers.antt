@@ -19,11 +19,14 @@ use Rattle.transitions.specs.declared.Decision.the-variants.{Take, NoStep, Igno
 use Rattle.transitions.specs.Table.{Row, stepTable, decidedBy}
 use Rattle.transitions.proofs.Sound.{Sound, document-01}
 use Rattle.transitions.proofs.Decided.{OfTaken, decided-few}
+use Rattle.call.specs.declared.Due.{Due}
+use Rattle.call.specs.declared.Due.the-variants.{Steps, Ignored, Reported, Refused}
 use Rattle.call.specs.declared.Event.{Event}
 use Rattle.call.specs.declared.Seen.{Seen}
 use Rattle.call.specs.declared.Stepped.{Stepped}
 use Rattle.call.specs.Events.{seenOf}
-use Rattle.call.specs.Step.{took, ignored, noStep, reportedWith, statusTold, parametersSet, carriedOut, stepBy, stepValue}
+use Rattle.call.specs.Step.{took, ignored, noStep, reportedWith, statusTold, parametersSet, carriedOut, stepBy}
+use Rattle.call.specs.Due.{settledBy, settled}
 
 pub record Right (most : ℕ) (x : Context) (r : Stepped) : Type 0 where
   pub numbered : r .answer ≤ 3
@@ -42,15 +45,15 @@ module _ (most : ℕ) (x : Context) where
     few = few;
   }
 
-  pub ignored-right : Right most x (ignored x)
+  ignored-right : Right most x (ignored x)
   unfolding ignored
   ignored-right = record { numbered = omega arith; kept = λ n. refl; still = λ n. refl; silent = λ n m. refl; few = omega arith }
 
-  pub no-step-right : Right most x (noStep x)
+  no-step-right : Right most x (noStep x)
   unfolding noStep
   no-step-right = record { numbered = omega arith; kept = λ n. refl; still = λ n. refl; silent = λ n m. refl; few = omega arith }
 
-  pub reported-right : (cause : ℕ) → Right most x (reportedWith cause x)
+  reported-right : (cause : ℕ) → Right most x (reportedWith cause x)
   unfolding reportedWith
   reported-right cause =
       at-cond (Right most x) (x .parameters .comm) _ _
@@ -66,9 +69,17 @@ module _ (most : ℕ) (x : Context) where
   carried-right SetParameters e f =
       at-cond (Right most x) (consistent (x .state) (parametersOf (e .attributes))) _ _ (λ q. taken-right _ 0 Nothing (omega arith)) (λ q. reported-right 98)
 
-  pub right-by : (table : List Row) → Sound most table → (event : Event) → Right most x (stepBy table x event)
+  right-by : (table : List Row) → Sound most table → (event : Event) → Right most x (stepBy table x event)
   unfolding stepBy
   right-by table sound event = carried-right _ (seenOf event) (decided-few most table sound x (seenOf event .number) (seenOf event .code))
 
-pub step-right : (x : Context) (event : Event) → Right 63 x (stepValue x event)
-step-right x = right-by 63 x stepTable document-01
+  settled-by : (table : List Row) → Sound most table → (due : Due) → Right most x (settledBy table x due)
+  unfolding settledBy
+  settled-by table sound (Steps event) = right-by table sound event
+  settled-by table sound Ignored = ignored-right
+  settled-by table sound (Reported cause) = reported-right cause
+  settled-by table sound Refused = no-step-right
+
+-- By document 01's rows.
+pub settled-right : (x : Context) (due : Due) → Right 63 x (settled x due)
+settled-right x = settled-by 63 x stepTable document-01

@@ -37,6 +37,8 @@ use Rattle.transitions.specs.declared.Decision.the-variants.{Take, NoStep, Igno
 use Rattle.transitions.specs.Table.{Row, stepTable, timersAfter, decidedBy}
 use Rattle.transitions.proofs.Sound.{Sound, document-01}
 use Rattle.transitions.proofs.Decided.{Keeps, decided-keeps}
+use Rattle.call.specs.declared.Due.{Due}
+use Rattle.call.specs.declared.Due.the-variants.{Steps, Ignored, Reported, Refused}
 use Rattle.call.specs.declared.Event.{Event}
 use Rattle.call.specs.declared.Event.the-variants.{Received}
 use Rattle.call.specs.declared.Seen.{Seen}
@@ -53,8 +55,8 @@ use Rattle.call.specs.Step.{
   parametersSet,
   carriedOut,
   stepBy,
-  stepValue,
 }
+use Rattle.call.specs.Due.{settledBy, settled}
 
 -- ---- after a row
 
@@ -114,8 +116,23 @@ unfolding stepBy
 fit-by most table sound x event fit fits =
     carried-fit x _ (seenOf event) fit (decided-keeps most table sound x (seenOf event .number) (seenOf event .code)) fits
 
-pub step-fit : (x : Context) (event : Event) → fitOf x ≡ true → leb (seenOf event .value) 6 ≡ true → fitOf (stepValue x event .context) ≡ true
-step-fit = fit-by 63 stepTable document-01
+-- So does whatever is due.
+abbrev pub DueFit : Due → Type 0
+DueFit (Steps event) = leb (seenOf event .value) 6 ≡ true
+DueFit Ignored = Unit {0}
+DueFit (Reported cause) = Unit {0}
+DueFit Refused = Unit {0}
+
+settled-by : (most : ℕ) (table : List Row) → Sound most table → (x : Context) → fitOf x ≡ true → (due : Due) → DueFit due → Fit (settledBy table x due)
+unfolding settledBy ignored noStep
+settled-by most table sound x fit (Steps event) fits = fit-by most table sound x event fit fits
+settled-by most table sound x fit Ignored fits = fit
+settled-by most table sound x fit (Reported cause) fits = reported-fit x cause fit
+settled-by most table sound x fit Refused fits = fit
+
+-- By document 01's rows.
+pub settled-fit : (x : Context) → fitOf x ≡ true → (due : Due) → DueFit due → Fit (settled x due)
+settled-fit = settled-by 63 stepTable document-01
 
 -- A message carries no value.
 message-value : (m : Message) → seenMessage m .value ≡ 0

@@ -17,7 +17,6 @@ use Rattle.element.specs.Elements.{elementFrom}
 use Rattle.message.specs.declared.Identity.{Identity}
 use Rattle.message.specs.declared.Identity.the-variants.{Absent, Present}
 use Rattle.message.specs.declared.Message.{Message}
-use Rattle.message.specs.declared.Message.the-variants.{GetStatus}
 use Rattle.message.specs.declared.Body.{Body}
 use Rattle.message.specs.declared.Body.the-variants.{Is, Wrong}
 use Rattle.message.specs.declared.Reading.{Reading}
@@ -49,23 +48,23 @@ use Rattle.message.specs.Reading.{
   readMessage,
 }
 use Rattle.message.proofs.Bodies.{counted-lies}
-use Rattle.received.specs.Received.{Within}
+use Rattle.received.specs.Received.{askedOf, Within}
 
 module _ (s : List ℕ) where
   abbrev InBody : Body → Type 0
-  InBody (Is message) = Within s message
+  InBody (Is message) = Within s (askedOf message .identity)
   InBody (Wrong fault) = Unit {0}
 
   abbrev InReading : Reading → Type 0
-  InReading (Reads flag value message) = Within s message
+  InReading (Reads flag value message) = Within s (askedOf message .identity)
   InReading (Unreadable fault) = Unit {0}
   InReading TooLong = Unit {0}
 
-  known : (m : Message) (found : Found) → Within s m → InBody (unlessKnown m found)
+  known : (m : Message) (found : Found) → Within s (askedOf m .identity) → InBody (unlessKnown m found)
   known m Nothing w = w
   known m (At place identifier) w = tt
 
-  whole : (end : ℕ) (m : Message) → Within s m → InBody (wholeOf s end m)
+  whole : (end : ℕ) (m : Message) → Within s (askedOf m .identity) → InBody (wholeOf s end m)
   unfolding wholeOf
   whole end m w = at-cond InBody (leb end (length s)) _ _ (λ e. known m (elementFrom s end 0 15) w) (λ e. tt)
 
@@ -74,13 +73,13 @@ module _ (s : List ℕ) where
   counted at go CutShort w = tt
   counted at go WrongLength w = tt
 
-  identity : (at : ℕ) (c : Counted) → c ≡ countedAt s at 1 8 → Within s (GetStatus (ifCounted c))
+  identity : (at : ℕ) (c : Counted) → c ≡ countedAt s at 1 8 → Within s (ifCounted c)
   unfolding Within
   identity at (Octets run) e = counted-lies s at 1 8 run e .fits
   identity at CutShort e = tt
   identity at WrongLength e = tt
 
-  found : (f : Found) → Within s (GetStatus (identityFound s f))
+  found : (f : Found) → Within s (identityFound s f)
   unfolding Within identityBehind
   found Nothing = tt
   found (At place identifier) = identity (place + 1) (countedAt s (place + 1) 1 8) refl
@@ -94,11 +93,11 @@ module _ (s : List ℕ) where
   every n d (r ∷ rs) p ps = at-cond InBody (eqb n (r .0)) (r .1) (rows n d rs) (λ e. ps .0) (λ e. every n d rs p (ps .1))
 
   immediate : InBody (immediateSetupOf s)
-  unfolding immediateSetupOf immediateIdentityOf Within
+  unfolding immediateSetupOf immediateIdentityOf askedOf Within
   immediate = counted 3 _ (countedAt s 3 3 3) (λ c. counted 7 _ (countedAt s 7 1 8) (λ run. whole _ _ tt))
 
   bodies : All (kinds s)
-  unfolding Within connectOf getStatusOf setParameterOf setupOf statusOf terminationOf terminationRejectOf terminationRequestOf
+  unfolding askedOf Within connectOf getStatusOf setParameterOf setupOf statusOf terminationOf terminationRejectOf terminationRequestOf
   bodies = (
     immediate,
     (
@@ -133,5 +132,5 @@ module _ (s : List ℕ) where
       (λ e. read-as _ _ (bodyOf s (getD s 1 0 % 64)) (every (getD s 1 0 % 64) _ (kinds s) tt bodies)))
       (λ e. tt)))
 
-  pub read-within : (flag : Bool) (value : ℕ) (m : Message) → readMessage s ≡ Reads flag value m → Within s m
+  pub read-within : (flag : Bool) (value : ℕ) (m : Message) → readMessage s ≡ Reads flag value m → Within s (askedOf m .identity)
   read-within flag value m e = subst InReading e reading
