@@ -9,8 +9,8 @@ use Rattle.message.specs.declared.Reference.{Reference}
 use Rattle.timer.specs.declared.Timers.{Timers}
 use Rattle.context.specs.declared.Context.{Context}
 use Rattle.context.specs.States.{same}
-use Rattle.context.specs.Context.{startRow, cleared}
-use Rattle.context.specs.Fit.{consistent}
+use Rattle.context.specs.Context.{entering, cleared}
+use Rattle.fitness.specs.First.{consistent}
 use Rattle.timer.specs.declared.Timer.{Timer}
 use Rattle.timer.specs.Timers.{withTimer}
 use Rattle.transitions.specs.declared.Send.{Send}
@@ -29,9 +29,9 @@ use Rattle.call.specs.Events.{seenOf}
 abbrev pub timersAfter : Timer → Timer → Timers → Timers
 timersAfter stops sets t = withTimer sets true (withTimer stops false t)
 
--- Entering a state sets its row. A step that stays in its state keeps the parameters.
+-- A step that stays in its state keeps the parameters; another enters its next state.
 unfoldable pub parametersAfter : Context → State → Parameters
-parametersAfter x next = cond (same (x .state) next) (x .parameters) (startRow next)
+parametersAfter x next = cond (same (x .state) next) (x .parameters) (entering next (x .parameters))
 
 -- Events 1, 2 and 10 store a transaction value and a reference when taken; CONNECT stores its reference.
 unfoldable pub valueAfter : Stores → ℕ → ℕ

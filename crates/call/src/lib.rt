@@ -159,7 +159,7 @@ fn parameters_after(context: Context, next: State) -> Parameters
     if from == to {
         return context.parameters;
     }
-    context::start_row(next)
+    context::entering(next, context.parameters)
 }
 
 fn value_after(stores: Stores, value: u8) -> u8
@@ -270,7 +270,7 @@ fn set_parameters(context: Context, attributes: u8) -> Stepped
     let timers = context.timers;
     let reference = context.reference;
     let parameters = codes::attributes::parameters_of(attributes);
-    if context::is_consistent(state, parameters) {
+    if fitness::is_consistent(state, parameters) {
         let set = Context {
             state,
             parameters,

@@ -29,10 +29,11 @@ use Rattle.timer.specs.declared.Timers.{Timers}
 use Rattle.context.specs.declared.Context.{Context}
 use Rattle.context.specs.States.{same}
 use Rattle.context.specs.Context.{cleared}
-use Rattle.context.specs.Fit.{consistent, timersFit, fitOf}
+use Rattle.fitness.specs.Fitness.{timersFitBy}
+use Rattle.fitness.specs.First.{firstFitness, consistent, timersFit, fitOf}
 use Rattle.context.specs.Running.{runs}
 use Rattle.context.proofs.Whole.{and-left, and-right, if-so, at-state, ofTimers, at-timers}
-use Rattle.context.proofs.Fit.{fit-timers}
+use Rattle.fitness.proofs.First.{fit-timers}
 use Rattle.timer.specs.declared.Timer.{Timer}
 use Rattle.transitions.specs.declared.Send.the-variants as Send
 use Rattle.transitions.specs.Table.{stepTable, decidedOf}
@@ -75,7 +76,7 @@ rightRow s n next actions sends stops sets =
     || rightly (cond (eqb n 12 && t .nochannel) 0 (timerNumber sets)) (runsOf t) (cond (same next U0) 0 (runsOf (timersAfter stops sets t))))
 
 rows-right : (x : Context) (s : State) → inTable (rightRow s) s x stepTable ≡ true
-unfolding stepTable timersFit withTimer
+unfolding stepTable timersFitBy withTimer firstFitness
 rows-right x = at-state (λ s. inTable (rightRow s) s x stepTable) refl
 
 -- No row of a message sets a timer.
