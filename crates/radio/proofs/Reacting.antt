@@ -22,8 +22,8 @@ use Rattle.message.specs.declared.Message.the-variants.{
   TerminationRequest,
 }
 use Rattle.context.specs.declared.Context.{Context}
-use Rattle.context.specs.Fit.{fitOf}
-use Rattle.context.proofs.Fit.{fit-value}
+use Rattle.fitness.specs.First.{fitOf}
+use Rattle.fitness.proofs.First.{fit-value}
 use Rattle.call.specs.declared.Due.{Due}
 use Rattle.call.specs.declared.Due.the-variants.{Steps, Ignored, Reported, Refused}
 use Rattle.call.specs.declared.Event.{Event}
