@@ -33,6 +33,11 @@ use element::Found;
 use element::counted_at;
 use element::seek;
 
+// The most octets of a mobile identity and of a cause, each behind its length octet.
+const IDENTITY_MOST: u8 = 8;
+
+const CAUSE_MOST: u8 = 247;
+
 // The reference at a place.
 fn reference_at(octets: &[u8], at: usize) -> Reference
     requires { ⌜ at + 4 ≤ length (now octets) ⌝ }
@@ -95,7 +100,7 @@ fn identity_behind(octets: &[u8], place: usize) -> Identity
     requires { ⌜ place + 1 ≤ length (now octets) ⌝ }
     ensures { λ r. ⌜ r ≡ identityBehind (now (octets .entry)) place ⌝ }
 {
-    match counted_at(octets, place + 1, 1, 8) {
+    match counted_at(octets, place + 1, 1, IDENTITY_MOST) {
         Counted::Octets(run) => Identity::Present(run),
         Counted::CutShort => Identity::Absent,
         Counted::WrongLength => Identity::Absent,
@@ -128,7 +133,7 @@ fn read_immediate_identity(octets: &[u8]) -> Body
 {
     let key = octets[2] / 16 % 8;
     let classmark = classmark_at(octets, 4);
-    match counted_at(octets, 7, 1, 8) {
+    match counted_at(octets, 7, 1, IDENTITY_MOST) {
         Counted::Octets(identity) => {
             let end = identity.start + identity.count;
             if octets.len() - end < 4 {
@@ -199,7 +204,7 @@ fn half_at(octets: &[u8], at: usize, low: u8) -> Half
 fn read_status(octets: &[u8]) -> Body
     ensures { λ r. ⌜ r ≡ statusOf (now (octets .entry)) ⌝ }
 {
-    match counted_at(octets, 2, 1, 247) {
+    match counted_at(octets, 2, 1, CAUSE_MOST) {
         Counted::Octets(cause) => {
             let end = cause.start + cause.count;
             let state = half_at(octets, end, 0xa0);
@@ -223,7 +228,7 @@ fn read_status(octets: &[u8]) -> Body
 fn read_termination(octets: &[u8]) -> Body
     ensures { λ r. ⌜ r ≡ terminationOf (now (octets .entry)) ⌝ }
 {
-    match counted_at(octets, 2, 1, 247) {
+    match counted_at(octets, 2, 1, CAUSE_MOST) {
         Counted::Octets(cause) => {
             let end = cause.start + cause.count;
             whole(octets, end, Message::Termination { cause })
@@ -237,7 +242,7 @@ fn read_termination(octets: &[u8]) -> Body
 fn read_termination_reject(octets: &[u8]) -> Body
     ensures { λ r. ⌜ r ≡ terminationRejectOf (now (octets .entry)) ⌝ }
 {
-    match counted_at(octets, 2, 1, 247) {
+    match counted_at(octets, 2, 1, CAUSE_MOST) {
         Counted::Octets(cause) => {
             let end = cause.start + cause.count;
             whole(octets, end, Message::TerminationReject { cause })

@@ -11,9 +11,8 @@ use Rattle.octets.proofs.Choice.{never}
 use Rattle.element.specs.declared.Run.{Run}
 use Rattle.message.specs.declared.Half.{Half}
 use Rattle.message.specs.declared.Half.the-variants.{Absent, Present}
-use Rattle.message.specs.Content.{runOctets}
+use Rattle.message.specs.Content.{runOctets, lies}
 use Rattle.octets.proofs.Stores.{part-length}
-use Rattle.writing.specs.Writing.{lies}
 use Rattle.writing.specs.Bodies.{runFits, halfFits, halfOctets, halfCount, statusFits}
 
 -- Both sides of a conjunction that holds.
@@ -70,6 +69,9 @@ pub half-small : (half : Half) → halfCount half ≤ 1
 half-small Absent = omega arith
 half-small (Present value) = omega arith
 
+pub half-room : (half : Half) (value at room : ℕ) → half ≡ Present value → at + halfCount half ≤ room → at < room
+half-room half value at room e h = let k : halfCount half ≡ 1 = ap halfCount e in omega arith
+
 pub half-below : (half : Half) (value : ℕ) → half ≡ Present value → halfFits half ≡ true → value < 16
 half-below half value e g = ltb-true value 16 (sym (ap halfFits e) ∙ g)
 
@@ -87,10 +89,10 @@ module _ (s : List ℕ) (cause : Run) (state attributes : Half) where
   unfolding statusFits
   status-attributes r x y = simp (r, x, y)
 
-  pub status-total : (p q : ℕ) → runFits s cause 247 ≡ true → halfFits state ≡ true → halfFits attributes ≡ true → p ≡ halfCount state
-      → q ≡ halfCount attributes → leb (3 + cause .count + p + q) 251 ≡ statusFits s cause state attributes
+  pub status-total : (n : ℕ) → runFits s cause 247 ≡ true → halfFits state ≡ true → halfFits attributes ≡ true
+      → n ≡ 3 + cause .count + halfCount state + halfCount attributes → leb n 251 ≡ statusFits s cause state attributes
   unfolding statusFits
-  status-total p q r x y a b = simp (r, x, y, a, b)
+  status-total n r x y e = simp (r, x, y, e)
 
   -- What a STATUS's test says.
   pub record Fine : Type 0 where

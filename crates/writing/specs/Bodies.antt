@@ -1,4 +1,6 @@
 -- What each kind's writer is held to: the same octets and the same test as in `Writing`, with the first octet given and the tests as the code makes them.
+-- Nobody need believe this file: no public contract and no theorem of the promises goes by it, and `proofs/Fitting` shows that it comes to what `Writing` says. It
+-- stands here because the contracts of private functions cite it, and a contract sees definitions alone.
 use Prim.Native.Nat.{ℕ, _+_}
 use mathlib.Core.Path.{_≡_}
 use mathlib.Core.List.{List, [], _∷_}
@@ -23,11 +25,10 @@ use Rattle.message.specs.declared.Message.the-variants.{
   TerminationReject,
   TerminationRequest,
 }
-use Rattle.message.specs.Content.{Content, runOctets}
+use Rattle.message.specs.Content.{Content, runOctets, lies}
 use Rattle.message.specs.Tables.{formatTV, typeOf, table, drawn, counted, octetsOf, elementFits}
 use Rattle.writing.specs.declared.Wrote.{Wrote}
-use Rattle.writing.specs.declared.Wrote.the-variants.{Written, OutOfRange}
-use Rattle.writing.specs.Writing.{lies}
+use Rattle.writing.specs.declared.Wrote.the-variants.{Written, ShortBuffer, OutOfRange}
 
 -- The message's octets, behind a first octet.
 unfoldable pub bodyOctets : ℕ → Content → List ℕ
@@ -69,7 +70,7 @@ bodyFits s (Termination cause) = runFits s cause 247
 bodyFits s (TerminationReject cause) = runFits s cause 247
 bodyFits s (TerminationRequest reference) = true
 
--- Writing `octets` over the start of `d`, if they fit, answers `r` and leaves `e`.
+-- Writing `octets` over the start of `d`, if they fit and there is room, answers `r` and leaves `e`.
 pub record Writes (d octets : List ℕ) (fits : Bool) (r : Wrote) (e : List ℕ) : Type 0 where
-  pub answer : r ≡ cond fits (Written (length octets)) OutOfRange
-  pub after : e ≡ cond fits (sets d 0 octets) d
+  pub answer : r ≡ cond fits (cond (ltb (length d) (length octets)) ShortBuffer (Written (length octets))) OutOfRange
+  pub after : e ≡ cond fits (cond (ltb (length d) (length octets)) d (sets d 0 octets)) d

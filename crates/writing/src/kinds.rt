@@ -1,4 +1,5 @@
-// What stands behind a message's first octet, written kind by kind. Each answers for its own fields, and writes nothing where one is out of range.
+// What stands behind a message's first octet, written kind by kind. Each answers for its own fields and its own room, and writes nothing where one is out of
+// range or the buffer is short.
 ghost use mathlib.Core.Path.{_≡_};
 ghost use mathlib.Core.Bool.{true};
 ghost use mathlib.Core.List.{_∷_, []};
@@ -28,6 +29,11 @@ use message::Identity;
 use message::Message;
 use message::Reference;
 use octets::copy_to;
+
+// The most octets of a mobile identity and of a cause, each behind its length octet.
+const IDENTITY_MOST: usize = 8;
+
+const CAUSE_MOST: usize = 247;
 
 // Whether a run of 1 to `most` octets lies within `source`.
 fn run_fits(source: &[u8], run: Run, most: usize) -> bool
@@ -83,7 +89,7 @@ fn put_reference(buffer: &mut [u8], at: usize, reference: Reference)
 
 // An optional half octet behind its identifier, to a place; answers the place behind it.
 fn put_half(buffer: &mut [u8], at: usize, identifier: u8, half: Half) -> usize
-    requires { ⌜ (at < length (now buffer)) × (identifier < 16) × (halfFits half ≡ true) ⌝ }
+    requires { ⌜ (at + halfCount half ≤ length (now buffer)) × (identifier < 16) × (halfFits half ≡ true) ⌝ }
     ensures { λ r. ⌜ (r ≡ at + halfCount half) × (now (buffer .exit) ≡ sets (now (buffer .entry)) at (halfOctets identifier half)) ⌝ }
 {
     match half {
@@ -97,11 +103,13 @@ fn put_half(buffer: &mut [u8], at: usize, identifier: u8, half: Half) -> usize
 
 // Table 8.1.
 fn write_connect(buffer: &mut [u8], head: u8, reference: Reference, originator: u8) -> Wrote
-    requires { ⌜ 255 ≤ length (now buffer) ⌝ }
     ensures { λ r. ⌜ Writes (now (buffer .entry)) (bodyOctets head (contentOf [] (Message.Connect reference originator))) (bodyFits [] (Message.Connect reference originator)) r (now (buffer .exit)) ⌝ }
 {
     if 2 <= originator {
         return Wrote::OutOfRange;
+    }
+    if buffer.len() < 7 {
+        return Wrote::ShortBuffer;
     }
     buffer[0] = head;
     buffer[1] = message_type::CONNECT;
@@ -115,11 +123,13 @@ fn write_connect(buffer: &mut [u8], head: u8, reference: Reference, originator: 
 
 // Table 8.2.
 fn write_get_status(buffer: &mut [u8], source: &[u8], head: u8, identity: Identity) -> Wrote
-    requires { ⌜ 255 ≤ length (now buffer) ⌝ }
     ensures { λ r. ⌜ Writes (now (buffer .entry)) (bodyOctets head (contentOf (now (source .entry)) (Message.GetStatus identity))) (bodyFits (now (source .entry)) (Message.GetStatus identity)) r (now (buffer .exit)) ⌝ }
 {
     match identity {
         Identity::Absent => {
+            if buffer.len() < 2 {
+                return Wrote::ShortBuffer;
+            }
             buffer[0] = head;
             buffer[1] = message_type::GET_STATUS;
             Wrote::Written(2)
@@ -130,14 +140,16 @@ fn write_get_status(buffer: &mut [u8], source: &[u8], head: u8, identity: Identi
 
 // Table 8.2 with a mobile identity.
 fn write_identified(buffer: &mut [u8], source: &[u8], head: u8, identity: Run) -> Wrote
-    requires { ⌜ 255 ≤ length (now buffer) ⌝ }
     ensures { λ r. ⌜ Writes (now (buffer .entry)) (bodyOctets head (contentOf (now (source .entry)) (Message.GetStatus (Identity.Present identity)))) (bodyFits (now (source .entry)) (Message.GetStatus (Identity.Present identity))) r (now (buffer .exit)) ⌝ }
 {
-    if !run_fits(source, identity, 8) {
+    if !run_fits(source, identity, IDENTITY_MOST) {
         return Wrote::OutOfRange;
     }
     let start = identity.start;
     let count = identity.count;
+    if buffer.len() < 4 + count {
+        return Wrote::ShortBuffer;
+    }
     buffer[0] = head;
     buffer[1] = message_type::GET_STATUS;
     buffer[2] = 0x17;
@@ -156,17 +168,19 @@ fn write_immediate_setup(
     identity: Run,
     reference: Reference,
 ) -> Wrote
-    requires { ⌜ 255 ≤ length (now buffer) ⌝ }
     ensures { λ r. ⌜ Writes (now (buffer .entry)) (bodyOctets head (contentOf (now (source .entry)) (Message.ImmediateSetup key classmark identity reference))) (bodyFits (now (source .entry)) (Message.ImmediateSetup key classmark identity reference)) r (now (buffer .exit)) ⌝ }
 {
     if 8 <= key {
         return Wrote::OutOfRange;
     }
-    if !run_fits(source, identity, 8) {
+    if !run_fits(source, identity, IDENTITY_MOST) {
         return Wrote::OutOfRange;
     }
     let start = identity.start;
     let count = identity.count;
+    if buffer.len() < 12 + count {
+        return Wrote::ShortBuffer;
+    }
     buffer[0] = head;
     buffer[1] = message_type::IMMEDIATE_SETUP;
     buffer[2] = 16 * key;
@@ -182,11 +196,13 @@ fn write_immediate_setup(
 
 // Table 8.4.
 fn write_set_parameter(buffer: &mut [u8], head: u8, attributes: u8) -> Wrote
-    requires { ⌜ 255 ≤ length (now buffer) ⌝ }
     ensures { λ r. ⌜ Writes (now (buffer .entry)) (bodyOctets head (contentOf [] (Message.SetParameter attributes))) (bodyFits [] (Message.SetParameter attributes)) r (now (buffer .exit)) ⌝ }
 {
     if 16 <= attributes {
         return Wrote::OutOfRange;
+    }
+    if buffer.len() < 3 {
+        return Wrote::ShortBuffer;
     }
     buffer[0] = head;
     buffer[1] = message_type::SET_PARAMETER;
@@ -196,9 +212,11 @@ fn write_set_parameter(buffer: &mut [u8], head: u8, attributes: u8) -> Wrote
 
 // Tables 8.5 and 8.9: a type and a reference.
 fn write_reference(buffer: &mut [u8], head: u8, kind: u8, reference: Reference) -> Wrote
-    requires { ⌜ 255 ≤ length (now buffer) ⌝ }
     ensures { λ r. ⌜ Writes (now (buffer .entry)) (head ∷ kind ∷ referenceOctets reference) true r (now (buffer .exit)) ⌝ }
 {
+    if buffer.len() < 6 {
+        return Wrote::ShortBuffer;
+    }
     buffer[0] = head;
     buffer[1] = kind;
     buffer[2] = reference.first;
@@ -210,14 +228,16 @@ fn write_reference(buffer: &mut [u8], head: u8, kind: u8, reference: Reference) 
 
 // Tables 8.7 and 8.8: a type and a cause.
 fn write_cause(buffer: &mut [u8], source: &[u8], head: u8, kind: u8, cause: Run) -> Wrote
-    requires { ⌜ 255 ≤ length (now buffer) ⌝ }
     ensures { λ r. ⌜ Writes (now (buffer .entry)) (head ∷ kind ∷ causeOctets (now (source .entry)) cause) (runFits (now (source .entry)) cause 247) r (now (buffer .exit)) ⌝ }
 {
-    if !run_fits(source, cause, 247) {
+    if !run_fits(source, cause, CAUSE_MOST) {
         return Wrote::OutOfRange;
     }
     let start = cause.start;
     let count = cause.count;
+    if buffer.len() < 3 + count {
+        return Wrote::ShortBuffer;
+    }
     buffer[0] = head;
     buffer[1] = kind;
     buffer[2] = count as u8;
@@ -225,11 +245,19 @@ fn write_cause(buffer: &mut [u8], source: &[u8], head: u8, kind: u8, cause: Run)
     Wrote::Written(3 + count)
 }
 
+// How many octets a STATUS takes, with a cause of `count`.
+fn status_count(count: usize, state: Half, attributes: Half) -> usize
+    requires { ⌜ count ≤ 247 ⌝ }
+    ensures { λ r. ⌜ r ≡ 3 + count + halfCount state + halfCount attributes ⌝ }
+{
+    3 + count + half_count(state) + half_count(attributes)
+}
+
 // Whether a STATUS fits: its fields, and at most 251 octets in all.
 fn status_fits(source: &[u8], cause: Run, state: Half, attributes: Half) -> bool
     ensures { λ r. ⌜ r ≡ statusFits (now (source .entry)) cause state attributes ⌝ }
 {
-    if !run_fits(source, cause, 247) {
+    if !run_fits(source, cause, CAUSE_MOST) {
         return false;
     }
     if !half_fits(state) {
@@ -238,8 +266,7 @@ fn status_fits(source: &[u8], cause: Run, state: Half, attributes: Half) -> bool
     if !half_fits(attributes) {
         return false;
     }
-    let count = cause.count;
-    3 + count + half_count(state) + half_count(attributes) <= 251
+    status_count(cause.count, state, attributes) <= 251
 }
 
 // Table 8.6.
@@ -251,7 +278,6 @@ fn write_status(
     state: Half,
     attributes: Half,
 ) -> Wrote
-    requires { ⌜ 255 ≤ length (now buffer) ⌝ }
     ensures { λ r. ⌜ Writes (now (buffer .entry)) (bodyOctets head (contentOf (now (source .entry)) (Message.Status cause state attributes))) (bodyFits (now (source .entry)) (Message.Status cause state attributes)) r (now (buffer .exit)) ⌝ }
 {
     if !status_fits(source, cause, state, attributes) {
@@ -259,6 +285,9 @@ fn write_status(
     }
     let start = cause.start;
     let count = cause.count;
+    if buffer.len() < status_count(count, state, attributes) {
+        return Wrote::ShortBuffer;
+    }
     buffer[0] = head;
     buffer[1] = message_type::STATUS;
     buffer[2] = count as u8;
@@ -270,7 +299,6 @@ fn write_status(
 
 // The message behind its first octet, which is `head`.
 pub(crate) fn write_body(buffer: &mut [u8], source: &[u8], head: u8, message: Message) -> Wrote
-    requires { ⌜ 255 ≤ length (now buffer) ⌝ }
     ensures { λ r. ⌜ Writes (now (buffer .entry)) (bodyOctets head (contentOf (now (source .entry)) message)) (bodyFits (now (source .entry)) message) r (now (buffer .exit)) ⌝ }
 {
     match message {
