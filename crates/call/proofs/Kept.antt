@@ -44,7 +44,7 @@ use Rattle.call.specs.declared.Due.the-variants.{Steps, Ignored, Reporte
 use Rattle.call.specs.declared.Event.{Event}
 use Rattle.call.specs.declared.Event.the-variants.{Received}
 use Rattle.call.specs.declared.Seen.{Seen}
-use Rattle.call.specs.declared.Stepped.{Stepped}
+use Rattle.call.specs.declared.Settled.{Settled}
 use Rattle.call.specs.Events.{seenMessage, seenOf}
 use Rattle.call.specs.Step.{
   parametersAfter,
@@ -85,14 +85,14 @@ DueFit Refused = Unit {0}
 
 -- ---- after a step
 
-abbrev pub Fit : Stepped → Type 0
+abbrev pub Fit : Settled → Type 0
 Fit r = fitOf (r .context) ≡ true
 
 module _ (fitness : Fitness) (most : ℕ) (table : List Row) (sound : Sound fitness most table) (x : Context) (fit : fitBy fitness x ≡ true) where
   abbrev StaysFit : Context → Type 0
   StaysFit y = fitBy fitness y ≡ true
 
-  abbrev StepFits : Stepped → Type 0
+  abbrev StepFits : Settled → Type 0
   StepFits r = StaysFit (r .context)
 
   parameters-fit : (next : State) → consistentBy fitness next (parametersAfter x next) ≡ true
