@@ -3,8 +3,8 @@ use Prim.Native.Nat.{ℕ}
 use mathlib.Core.Bool.{cond}
 use mathlib.Core.List.{List}
 use lib.Dec.{eqb}
-use Rattle.settings.specs.declared.Fault.{Fault}
-use Rattle.settings.specs.declared.Fault.the-variants.{Fine, NoLineFeed, UnknownName, BadKey, BadClassmark, BadIdentity, BadJoining, Repeated, NoKey, NoClassmark, NoIdentity, NoJoining}
+use Rattle.settings_line.specs.declared.Fault.{Fault}
+use Rattle.settings_line.specs.declared.Fault.the-variants.{Fine, NoLineFeed, UnknownName, BadKey, BadClassmark, BadIdentity, BadJoining, Repeated, NoKey, NoClassmark, NoIdentity, NoJoining}
 use Rattle.settings.specs.declared.ReadSettings.{ReadSettings}
 use Rattle.settings_octets.specs.Octets.{octetsOf}
 use Rattle.controller.specs.declared.configuring.SettingsRead.{SettingsRead}

@@ -2,7 +2,7 @@
 ghost use mathlib.Core.Path.{_≡_};
 ghost use Rattle.settings.specs.Settings.{settingsOf};
 ghost use Rattle.controller.specs.Configuring.{faultNumber, keptOctets, settingsShown};
-use settings::Fault;
+use settings_line::Fault;
 
 #[repr(C)]
 pub struct SettingsRead {
