@@ -6,7 +6,7 @@ use native.Mathlib.Omega.{arith}
 use Rattle.octets.specs.Run.{part}
 use Rattle.element.specs.declared.Run.{Run}
 use Rattle.reply.specs.declared.Own.{Own}
-use Rattle.context.specs.Running.{joiningGreatest}
+use Rattle.timer.specs.Timers.{joiningGreatest}
 use Rattle.verdict.specs.declared.Judged.{Judged}
 use Rattle.verdict.specs.declared.Judged.the-variants.{Accepted, Unreadable, Unexplained, TooLong, OutOfRange}
 use Rattle.verdict.specs.Judge.{judgeOf}

@@ -1,7 +1,7 @@
 -- The judge's verdict, as C has it: the answer number; of 0 how many entries, of 8 and 9 the entry that is refused, of any other 0; and the least and the
 -- greatest joining timer in milliseconds, 0 unless accepted.
 use Prim.Native.Nat.{ℕ, _≤_}
-use Rattle.context.specs.Running.{joiningGreatest}
+use Rattle.timer.specs.Timers.{joiningGreatest}
 use Rattle.verdict.specs.declared.Judged.{Judged}
 use Rattle.verdict.specs.declared.Judged.the-variants.{Accepted, Unreadable, Unexplained, TooLong, OutOfRange}
 use Rattle.judge_numbers.specs.declared.Judgement.{Judgement}

@@ -9,6 +9,7 @@ use borrow.Author.Tests.{lt-ltb, le-leb, eq-eqb, ne-eqb, ltb-true, ltb-false, eq
 use lib.Dec.{ltb, eqb}
 use lib.ListN.{length, take, replicate}
 use Rattle.octets.proofs.Choice.{never}
+use Rattle.timer.specs.Timers.{joiningLeast, joiningGreatest}
 use Rattle.settings_values.specs.declared.Settings.{Settings}
 use Rattle.settings_line.specs.declared.Seen.{Seen}
 use Rattle.settings.specs.Lines.{Ended, longer, lines}
@@ -77,7 +78,7 @@ identity-back {octets} {text} w h k =
     let l : length text ≡ 2 * length octets = r .long in
     rw (le-leb 2 (length text) (omega arith), le-leb (length text) 16 (omega arith), eq-eqb (length text % 2) 0 (omega arith), r .digits-all, r .same)
 
-module _ (n : ℕ) (least : 10000 ≤ n) (greatest : n ≤ 30000) where
+module _ (n : ℕ) (least : joiningLeast ≤ n) (greatest : n ≤ joiningGreatest) where
   decimal-digits : digits 10 (decimalText n) ≡ true
   unfolding digits
   decimal-digits =
@@ -119,7 +120,7 @@ module _ (n : ℕ) (least : 10000 ≤ n) (greatest : n ≤ 30000) where
   unfolding joiningOf
   joining-back =
       let f : 0x30 + n / 10000 ≡ 0x30 → ⊥ = λ e. omega arith in
-      rw (decimal-digits, decimal-number, ne-eqb (0x30 + n / 10000) 0x30 f, le-leb 10000 n least, le-leb n 30000 greatest)
+      rw (decimal-digits, decimal-number, ne-eqb (0x30 + n / 10000) 0x30 f, le-leb joiningLeast n least, le-leb n joiningGreatest greatest)
 
 -- A text with no LF in it, ended by one, is a line.
 clean : List ℕ → Bool

@@ -9,10 +9,11 @@ use lib.Dec.{leb, eqb}
 use lib.ListN.{length, getD, take, drop, take-append-drop}
 use lib.Seq.{take-append-seam}
 use Rattle.octets.proofs.Choice.{never, at-cond}
+use Rattle.timer.specs.Timers.{joiningLeast, joiningGreatest}
 use Rattle.settings_values.specs.declared.Settings.{Settings}
 use Rattle.settings.specs.Lines.{Line, Ended, Cut, longer, lines}
 use Rattle.settings_values.specs.Digits.{digit, digits, octetsOf, numberFrom}
-use Rattle.settings_values.specs.Values.{padded}
+use Rattle.settings_values.specs.Values.{isJoining, padded}
 use Rattle.settings_line.specs.Line.{Setting, Key, Classmark, Identity, Joining, Unreadable, cksn=, classmark=, identity=, «conn_req_ms=», keyOf, classmarkOf, identityOf, joiningOf, starts, settingOf}
 use Rattle.settings.specs.Settings.{meaning}
 use Rattle.settings_fit.specs.Written.{decimalText, Writes, key-line, classmark-line, identity-line, joining-line, WritesAll, no-line, and-line, times, EachOnce, Fit}
@@ -37,8 +38,8 @@ record Ranged (s : Settings) (name : ℕ) : Type 0 where
   most : name ≡ 2 → s .count ≤ 8
   counted : name ≡ 2 → length (take (s .count) (s .identity)) ≡ s .count
   zeros : name ≡ 2 → s .identity ≡ padded (take (s .count) (s .identity))
-  least : name ≡ 3 → 10000 ≤ s .joining
-  greatest : name ≡ 3 → s .joining ≤ 30000
+  least : name ≡ 3 → joiningLeast ≤ s .joining
+  greatest : name ≡ 3 → s .joining ≤ joiningGreatest
 
 other : {A : Type 0} (m n : ℕ) → eqb m n ≡ false → m ≡ n → A
 other m n h e = never (sym h ∙ eq-eqb m n e)
@@ -132,15 +133,15 @@ module _ (s : Settings) where
   unfolding joiningOf
   joining-is text = at-cond (Is («conn_req_ms=» ++ text)) _ _ _ five (λ _ h. elim h [ ])
     where
-      five : (digits 10 text && not (eqb (getD text 0 0) 0x30) && leb 10000 (numberFrom 0 text) && leb (numberFrom 0 text) 30000) ≡ true
+      five : isJoining text ≡ true
           → Is («conn_req_ms=» ++ text) (Joining (numberFrom 0 text))
       five e h =
           let p = both _ _ e in
           let q = both _ _ (p .0) in
           let r = both _ _ (q .0) in
           let f : getD text 0 0 ≡ 0x30 → ⊥ = λ k. never (sym (ap not (eq-eqb (getD text 0 0) 0x30 k)) ∙ r .1) in
-          let l : 10000 ≤ numberFrom 0 text = leb-true _ _ (q .1) in
-          let g : numberFrom 0 text ≤ 30000 = leb-true _ _ (p .1) in
+          let l : joiningLeast ≤ numberFrom 0 text = leb-true _ _ (q .1) in
+          let g : numberFrom 0 text ≤ joiningGreatest = leb-true _ _ (p .1) in
           let t : text ≡ decimalText (s .joining) = rw h (five-is text (r .0) f l g) in
           record {
             writes = rw t joining-line;

@@ -10,6 +10,7 @@ use lib.Dec.{leb, ltb}
 use lib.ListN.{length, getD, drop, set, drop-of-length-le, length-drop}
 use lib.Seq.{drop-cons, sets}
 use Rattle.settings_values.specs.Digits.{between, digit, digits, octetsOf, numberFrom}
+use Rattle.timer.specs.Timers.{joiningGreatest}
 use Rattle.settings_values.specs.declared.Hex.{Hex}
 use Rattle.settings_values.specs.Values.{noHex, hexFrom, decimalFrom}
 
@@ -116,12 +117,12 @@ unfolding numberFrom
 number-grows n [] = omega arith
 number-grows n (b ∷ text) = let h : 10 * n + digit b ≤ numberFrom (10 * n + digit b) text = number-grows (10 * n + digit b) text in omega arith
 
-over : (n : ℕ) (text : List ℕ) → 30000 < n → decimalFrom n text ≡ 0
+over : (n : ℕ) (text : List ℕ) → joiningGreatest < n → decimalFrom n text ≡ 0
 unfolding decimalFrom
 over n text h =
     let g : n ≤ numberFrom n text = number-grows n text in
-    let k : 30000 < numberFrom n text = omega arith in
-    rw (lt-leb (numberFrom n text) 30000 k, and-false (digits 10 text))
+    let k : joiningGreatest < numberFrom n text = omega arith in
+    rw (lt-leb (numberFrom n text) joiningGreatest k, and-false (digits 10 text))
 
 decimal-one : (n b : ℕ) (text : List ℕ) → digit b < 10 → decimalFrom n (b ∷ text) ≡ decimalFrom (10 * n + digit b) text
 unfolding decimalFrom digits numberFrom
@@ -138,9 +139,9 @@ module _ (n place : ℕ) (text : List ℕ) (next : ℕ) (h : place < length text
   unfolding decimalFrom digits
   decimal-bad k = rw (drop-cons text place 0 h, ← p, le-ltb next 10 k)
 
-  pub decimal-over : next < 10 → 30000 < 10 * n + next → 0 ≡ decimalFrom n (drop place text)
+  pub decimal-over : next < 10 → joiningGreatest < 10 * n + next → 0 ≡ decimalFrom n (drop place text)
   decimal-over k l = sym (decimal-next k ∙ over (10 * n + next) (drop (place + 1) text) l)
 
-pub decimal-end : (n place : ℕ) (text : List ℕ) → n ≤ 30000 → length text ≤ place → decimalFrom n (drop place text) ≡ n
+pub decimal-end : (n place : ℕ) (text : List ℕ) → n ≤ joiningGreatest → length text ≤ place → decimalFrom n (drop place text) ≡ n
 unfolding decimalFrom digits numberFrom
-decimal-end n place text k h = rw (drop-of-length-le text h, le-leb n 30000 k)
+decimal-end n place text k h = rw (drop-of-length-le text h, le-leb n joiningGreatest k)

@@ -9,6 +9,7 @@ use lib.Dec.{leb, eqb}
 use lib.ListN.{length, getD, drop, replicate}
 use lib.Seq.{sets, sets-eq}
 use Rattle.octets.proofs.Choice.{never}
+use Rattle.timer.specs.Timers.{joiningLeast, joiningGreatest}
 use Rattle.settings_values.specs.declared.ClassmarkRead.{ClassmarkRead}
 use Rattle.settings_values.specs.declared.JoiningRead.{JoiningRead}
 use Rattle.settings_values.specs.declared.Hex.{Hex}
@@ -146,23 +147,23 @@ joining : ℕ → JoiningRead
 joining n = record { good = true; milliseconds = n }
 
 module _ (text : List ℕ) (n : ℕ) (p : n ≡ decimalOf text) where
-  pub joining-under : n < 10000 → noJoining ≡ joiningRead text
+  pub joining-under : n < joiningLeast → noJoining ≡ joiningRead text
   unfolding joiningRead decimalOf decimalFrom
-  joining-under h = go (digits 10 text) (not (eqb (getD text 0 0) 0x30)) (leb (numberFrom 0 text) 30000) p
+  joining-under h = go (digits 10 text) (not (eqb (getD text 0 0) 0x30)) (leb (numberFrom 0 text) joiningGreatest) p
     where
       go : (d z l : Bool) → n ≡ cond (d && l) (numberFrom 0 text) 0
-          → noJoining ≡ cond (d && z && leb 10000 (numberFrom 0 text) && l) (record { good = true; milliseconds = numberFrom 0 text }) noJoining
+          → noJoining ≡ cond (d && z && leb joiningLeast (numberFrom 0 text) && l) (record { good = true; milliseconds = numberFrom 0 text }) noJoining
       go false z l q = refl
       go true false l q = refl
-      go true true true q = let k : numberFrom 0 text < 10000 = omega arith in rw (lt-leb 10000 (numberFrom 0 text) k)
-      go true true false q = rw (and-false (leb 10000 (numberFrom 0 text)))
+      go true true true q = let k : numberFrom 0 text < joiningLeast = omega arith in rw (lt-leb joiningLeast (numberFrom 0 text) k)
+      go true true false q = rw (and-false (leb joiningLeast (numberFrom 0 text)))
 
-  pub joining-good : (getD text 0 0 ≡ 0x30 → ⊥) → 10000 ≤ n → record { good = true; milliseconds = n } ≡ joiningRead text
+  pub joining-good : (getD text 0 0 ≡ 0x30 → ⊥) → joiningLeast ≤ n → record { good = true; milliseconds = n } ≡ joiningRead text
   unfolding joiningRead decimalOf decimalFrom joining
-  joining-good f h = rw (ne-eqb (getD text 0 0) 0x30 f) (go (digits 10 text) (leb (numberFrom 0 text) 30000) p)
+  joining-good f h = rw (ne-eqb (getD text 0 0) 0x30 f) (go (digits 10 text) (leb (numberFrom 0 text) joiningGreatest) p)
     where
       go : (d l : Bool) → n ≡ cond (d && l) (numberFrom 0 text) 0
-          → joining n ≡ cond (d && true && leb 10000 (numberFrom 0 text) && l) (joining (numberFrom 0 text)) noJoining
+          → joining n ≡ cond (d && true && leb joiningLeast (numberFrom 0 text) && l) (joining (numberFrom 0 text)) noJoining
       go false l q = let z : ⊥ = omega arith in elim z [ ]
       go true false q = let z : ⊥ = omega arith in elim z [ ]
-      go true true q = let k : 10000 ≤ numberFrom 0 text = omega arith in rw (le-leb 10000 (numberFrom 0 text) k, q)
+      go true true q = let k : joiningLeast ≤ numberFrom 0 text = omega arith in rw (le-leb joiningLeast (numberFrom 0 text) k, q)

@@ -5,6 +5,7 @@ use mathlib.Core.Bool.{Bool, true, false, cond, not, _&&_}
 use mathlib.Core.List.{List, [], _∷_, _++_}
 use lib.Dec.{leb, ltb, eqb}
 use lib.ListN.{length, getD, replicate, set, take}
+use Rattle.timer.specs.Timers.{joiningLeast, joiningGreatest}
 use Rattle.settings_values.specs.Digits.{digit, digits, octetsOf, numberFrom}
 use Rattle.settings_values.specs.declared.Settings.{Settings}
 use Rattle.settings_values.specs.declared.KeyRead.{KeyRead}
@@ -27,7 +28,7 @@ isIdentity text = leb 2 (length text) && leb (length text) 16 && eqb (length tex
 
 -- "`conn_req_ms=` decimal, no leading zero, 10000 to 30000"; 0x30 is the digit 0
 abbrev pub isJoining : List ℕ → Bool
-isJoining text = digits 10 text && not (eqb (getD text 0 0) 0x30) && leb 10000 (numberFrom 0 text) && leb (numberFrom 0 text) 30000
+isJoining text = digits 10 text && not (eqb (getD text 0 0) 0x30) && leb joiningLeast (numberFrom 0 text) && leb (numberFrom 0 text) joiningGreatest
 
 -- An identity of eight octets at most, and zeros up to eight.
 abbrev pub padded : List ℕ → List ℕ
@@ -45,8 +46,8 @@ pub record InRange (s : Settings) : Type 0 where
   pub most : s .count ≤ 8
   pub counted : length (take (s .count) (s .identity)) ≡ s .count
   pub zeros : s .identity ≡ padded (take (s .count) (s .identity))
-  pub least : 10000 ≤ s .joining
-  pub greatest : s .joining ≤ 30000
+  pub least : joiningLeast ≤ s .joining
+  pub greatest : s .joining ≤ joiningGreatest
 
 -- What reading a text comes to: the value, or that it is none.
 abbrev pub noKey : KeyRead
@@ -88,9 +89,9 @@ hexFrom (suc left) octets place (high ∷ low ∷ text) =
 unfoldable pub hexOf : List ℕ → Hex
 hexOf text = hexFrom 8 (replicate 8 0) 0 text
 
--- A decimal number behind digits that wrote `n`, and 0 where it is none or is over 30000.
+-- A decimal number behind digits that wrote `n`, and 0 where it is none or is over the greatest joining timer.
 unfoldable pub decimalFrom : ℕ → List ℕ → ℕ
-decimalFrom n text = cond (digits 10 text && leb (numberFrom n text) 30000) (numberFrom n text) 0
+decimalFrom n text = cond (digits 10 text && leb (numberFrom n text) joiningGreatest) (numberFrom n text) 0
 
 unfoldable pub decimalOf : List ℕ → ℕ
 decimalOf text = decimalFrom 0 text

@@ -2,6 +2,7 @@
 ghost use mathlib.Core.Path.{_≡_};
 ghost use Rattle.settings_values.specs.Digits.{digit};
 ghost use Rattle.settings_values.specs.Values.{classmarkRead, decimalOf, hexOf, identityRead, joiningRead, keyRead};
+use timer::Timers;
 
 // Ciphering key number, classmark, own identity (its first `count` octets, then zeros) and joining timer in milliseconds.
 pub struct Settings {
@@ -140,7 +141,7 @@ fn hex_octets(text: &[u8]) -> Hex
     }
 }
 
-// The number that decimal digits write, if it is 30000 at most; and 0 otherwise.
+// The number that decimal digits write, if it is at most the greatest joining timer; and 0 otherwise.
 fn decimal(text: &[u8]) -> u32
     ensures { λ r. ⌜ r ≡ decimalOf (now (text .entry)) ⌝ }
 {
@@ -151,7 +152,7 @@ fn decimal(text: &[u8]) -> u32
             return 0;
         }
         number = 10 * number + digit as u32;
-        if 30000 < number {
+        if Timers::JOINING_GREATEST < number {
             return 0;
         }
     }
@@ -230,7 +231,7 @@ pub fn read_joining(text: &[u8]) -> JoiningRead
         return JoiningRead::NONE;
     }
     let number = decimal(text);
-    if number < 10000 {
+    if number < Timers::JOINING_LEAST {
         return JoiningRead::NONE;
     }
     JoiningRead {

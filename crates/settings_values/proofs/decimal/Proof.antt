@@ -4,13 +4,14 @@ use mathlib.Core.Path.{_≡_, refl, sym, _∙_}
 use native.Mathlib.Omega.{arith}
 use borrow.Author.Needs.{needs}
 use lib.ListN.{length, drop}
+use Rattle.timer.specs.Timers.{joiningGreatest}
 use Rattle.settings_values.specs.Values.{decimalFrom, decimalOf}
 use Rattle.settings_values.proofs.Digits.{decimal-next, decimal-bad, decimal-over, decimal-end}
 use Rattle.settings_values.proofs.decimal.Statement.{statement}
 use Rattle.settings_values.proofs.decimal.Tie as tie
 
 abbrev Inv-loop : tie.InvT-loop
-Inv-loop text number₀ place₀ place-end number place = (place ≤ length text) × (number ≤ 30000) × (decimalFrom number (drop place text) ≡ decimalOf text)
+Inv-loop text number₀ place₀ place-end number place = (place ≤ length text) × (number ≤ joiningGreatest) × (decimalFrom number (drop place text) ≡ decimalOf text)
 
 abbrev μ-loop : tie.MeasureT-loop
 μ-loop text number₀ place₀ place-end number place = length text - place
