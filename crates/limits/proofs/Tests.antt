@@ -13,7 +13,8 @@ use Rattle.message.specs.declared.Half.{Half}
 use Rattle.message.specs.declared.Half.the-variants.{Absent, Present}
 use Rattle.message.specs.Content.{runOctets, lies}
 use Rattle.octets.proofs.Stores.{part-length}
-use Rattle.writing.specs.Bodies.{runFits, halfFits, halfOctets, halfCount, statusFits}
+use Rattle.message.specs.Tables.{formatTV, octetsOf}
+use Rattle.limits.specs.Limits.{runFits, halfFits, halfCount, statusFits}
 
 -- Both sides of a conjunction that holds.
 pub and-left : (a b : Bool) → a && b ≡ true → a ≡ true
@@ -61,7 +62,7 @@ module _ (s : List ℕ) (run : Run) (most : ℕ) where
       }
 
 -- An optional half octet takes at most one octet, and is below 16 where it fits.
-pub half-count : (identifier : ℕ) (half : Half) → length (halfOctets identifier half) ≡ halfCount half
+pub half-count : (identifier : ℕ) (half : Half) → length (octetsOf (formatTV identifier half)) ≡ halfCount half
 half-count identifier Absent = refl
 half-count identifier (Present value) = refl
 
@@ -89,10 +90,10 @@ module _ (s : List ℕ) (cause : Run) (state attributes : Half) where
   unfolding statusFits
   status-attributes r x y = simp (r, x, y)
 
-  pub status-total : (n : ℕ) → runFits s cause 247 ≡ true → halfFits state ≡ true → halfFits attributes ≡ true
-      → n ≡ 3 + cause .count + halfCount state + halfCount attributes → leb n 251 ≡ statusFits s cause state attributes
+  pub status-total : (p q : ℕ) → runFits s cause 247 ≡ true → halfFits state ≡ true → halfFits attributes ≡ true → p ≡ halfCount state
+      → q ≡ halfCount attributes → leb (3 + cause .count + p + q) 251 ≡ statusFits s cause state attributes
   unfolding statusFits
-  status-total n r x y e = simp (r, x, y, e)
+  status-total p q r x y a b = simp (r, x, y, a, b)
 
   -- What a STATUS's test says.
   pub record Fine : Type 0 where

@@ -1,9 +1,9 @@
 -- `run_fits` meets its contract: each of its five ways is one of the definition's.
 use borrow.Author.Needs.{needs}
 use native.Mathlib.Omega.{arith}
-use Rattle.writing.proofs.Tests.{run-none, run-many, run-past, run-good}
-use Rattle.writing.proofs.kinds.run_fits.Statement.{statement}
-use Rattle.writing.proofs.kinds.run_fits.Tie as tie
+use Rattle.limits.proofs.Tests.{run-none, run-many, run-past, run-good}
+use Rattle.limits.proofs.run_fits.Statement.{statement}
+use Rattle.limits.proofs.run_fits.Tie as tie
 
 pub run-fits-spec : {M : Type 1} → statement M
 run-fits-spec =

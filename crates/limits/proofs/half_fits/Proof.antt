@@ -1,7 +1,7 @@
 -- `half_fits` meets its contract.
 use borrow.Author.Needs.{needs}
-use Rattle.writing.proofs.kinds.half_fits.Statement.{statement}
-use Rattle.writing.proofs.kinds.half_fits.Tie as tie
+use Rattle.limits.proofs.half_fits.Statement.{statement}
+use Rattle.limits.proofs.half_fits.Tie as tie
 
 pub half-fits-spec : {M : Type 1} → statement M
 half-fits-spec =
