@@ -24,8 +24,9 @@ use Rattle.message.specs.Tables.{written, fits}
 use Rattle.message.specs.Reading.{octet, behind, ifCounted, identityBehind, identityFound, halfFound, halfAt, readMessage}
 use Rattle.message.proofs.Each.{Each, of-read}
 use Rattle.writing.specs.Writing.{writable, octetsWritten}
-use Rattle.writing.specs.Bodies.{bodyFits, runFits, halfFits, halfCount}
-use Rattle.writing.proofs.Tests.{run-good, status-total}
+use Rattle.limits.specs.Limits.{runFits, halfFits, halfCount}
+use Rattle.writing.specs.Bodies.{bodyFits}
+use Rattle.limits.proofs.Tests.{run-good, status-total}
 use Rattle.writing.proofs.Fitting.{fits-same}
 use Rattle.roundtrip.specs.Back.{Says, GivesBack}
 use Rattle.roundtrip.proofs.Drawn.{fitting}
@@ -86,7 +87,7 @@ module _ (s : List ℕ) where
       let few : behind r + halfCount (halfFound f) + halfCount (halfFound g) ≤ length s =
       halves-few (behind r) f g (seek-told s (behind r) 0xA0 0xAF) (seek-told s (behind r) 0xB0 0xBF) (l .fits) in
       let total : 3 + r .count + halfCount (halfFound f) + halfCount (halfFound g) ≤ 251 = omega arith in
-      sym (status-total s r (halfFound f) (halfFound g) _ (run-passes 2 247 r l) (half-passes f) (half-passes g) refl) ∙ le-leb _ _ total
+      sym (status-total s r (halfFound f) (halfFound g) _ _ (run-passes 2 247 r l) (half-passes f) (half-passes g) refl refl) ∙ le-leb _ _ total
 
   each-passes : length s ≤ 251 → Each s Passes
   each-passes short = record {

@@ -37,8 +37,9 @@ use Rattle.message.specs.Content.{
 use Rattle.message.specs.Tables.{typeOf, table}
 use Rattle.writing.specs.declared.Wrote.{Wrote}
 use Rattle.writing.specs.declared.Wrote.the-variants.{Written, ShortBuffer, OutOfRange}
-use Rattle.writing.specs.Bodies.{Writes, bodyOctets, bodyFits, causeOctets, runFits, halfFits, halfOctets, halfCount, statusFits}
-use Rattle.writing.proofs.Tests.{Good, good, Fine, fine, half-count}
+use Rattle.limits.specs.Limits.{runFits, halfFits, halfCount, statusFits}
+use Rattle.writing.specs.Bodies.{Writes, bodyOctets, bodyFits, causeOctets, halfOctets}
+use Rattle.limits.proofs.Tests.{Good, good, Fine, fine, half-count}
 
 module _ (d xs : List ℕ) (fits : Bool) where
   pub refused : fits ≡ false → Writes d xs fits OutOfRange d

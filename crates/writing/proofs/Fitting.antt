@@ -29,9 +29,10 @@ use Rattle.message.specs.Content.{contentOf, runOctets, lies, runsLie, referenc
 use Rattle.message.specs.Tables.{fits, table, typeOf, written, rowsFit, countFits}
 use Rattle.writing.specs.declared.Wrote.{Wrote}
 use Rattle.writing.specs.Writing.{writable, putAnswer, putLeaves, writeAnswer, writeLeaves}
-use Rattle.writing.specs.Bodies.{Writes, bodyOctets, bodyFits, runFits, halfFits, halfOctets, halfCount, statusFits}
+use Rattle.limits.specs.Limits.{runFits, halfFits, halfCount, statusFits}
+use Rattle.writing.specs.Bodies.{Writes, bodyOctets, bodyFits, halfOctets}
 use Rattle.message.specs.Tables.{headOf}
-use Rattle.writing.proofs.Tests.{and-left, and-right, half-count}
+use Rattle.limits.proofs.Tests.{and-left, and-right, half-count}
 
 -- A conjunct that the one before implies says nothing.
 and-implied : (a b : Bool) → (a ≡ true → b ≡ true) → a && b ≡ a

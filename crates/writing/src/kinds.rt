@@ -9,72 +9,21 @@ ghost use lib.Seq.{sets};
 ghost use Rattle.element.specs.declared.Run.{Run};
 ghost use Rattle.message.specs.declared.Message.{Message};
 ghost use Rattle.message.specs.Content.{contentOf, referenceOctets};
-ghost use Rattle.writing.specs.Bodies.{
-  Writes,
-  causeOctets,
-  bodyOctets,
-  bodyFits,
-  runFits,
-  halfFits,
-  halfCount,
-  halfOctets,
-  statusFits,
-};
+ghost use Rattle.limits.specs.Limits.{runFits, halfFits, halfCount};
+ghost use Rattle.writing.specs.Bodies.{Writes, causeOctets, bodyOctets, bodyFits, halfOctets};
 use crate::Wrote;
 use codes::message_type;
 use element::Run;
+use limits::cause_fits;
+use limits::half_count;
+use limits::identity_fits;
+use limits::status_fits;
 use message::Classmark;
 use message::Half;
 use message::Identity;
 use message::Message;
 use message::Reference;
 use octets::copy_to;
-
-// The most octets of a mobile identity and of a cause, each behind its length octet.
-const IDENTITY_MOST: usize = 8;
-
-const CAUSE_MOST: usize = 247;
-
-// Whether a run of 1 to `most` octets lies within `source`.
-fn run_fits(source: &[u8], run: Run, most: usize) -> bool
-    ensures { λ r. ⌜ r ≡ runFits (now (source .entry)) run most ⌝ }
-{
-    let start = run.start;
-    let count = run.count;
-    if count < 1 {
-        return false;
-    }
-    if most < count {
-        return false;
-    }
-    if source.len() < start {
-        return false;
-    }
-    if source.len() - start < count {
-        return false;
-    }
-    true
-}
-
-// Whether a half octet holds the value.
-fn half_fits(half: Half) -> bool
-    ensures { λ r. ⌜ r ≡ halfFits half ⌝ }
-{
-    match half {
-        Half::Absent => true,
-        Half::Present(value) => value < 16,
-    }
-}
-
-// How many octets an optional half octet takes.
-fn half_count(half: Half) -> usize
-    ensures { λ r. ⌜ r ≡ halfCount half ⌝ }
-{
-    match half {
-        Half::Absent => 0,
-        Half::Present(_) => 1,
-    }
-}
 
 // The four octets of a reference, to a place.
 fn put_reference(buffer: &mut [u8], at: usize, reference: Reference)
@@ -142,7 +91,7 @@ fn write_get_status(buffer: &mut [u8], source: &[u8], head: u8, identity: Identi
 fn write_identified(buffer: &mut [u8], source: &[u8], head: u8, identity: Run) -> Wrote
     ensures { λ r. ⌜ Writes (now (buffer .entry)) (bodyOctets head (contentOf (now (source .entry)) (Message.GetStatus (Identity.Present identity)))) (bodyFits (now (source .entry)) (Message.GetStatus (Identity.Present identity))) r (now (buffer .exit)) ⌝ }
 {
-    if !run_fits(source, identity, IDENTITY_MOST) {
+    if !identity_fits(source, identity) {
         return Wrote::OutOfRange;
     }
     let start = identity.start;
@@ -173,7 +122,7 @@ fn write_immediate_setup(
     if 8 <= key {
         return Wrote::OutOfRange;
     }
-    if !run_fits(source, identity, IDENTITY_MOST) {
+    if !identity_fits(source, identity) {
         return Wrote::OutOfRange;
     }
     let start = identity.start;
@@ -230,7 +179,7 @@ fn write_reference(buffer: &mut [u8], head: u8, kind: u8, reference: Reference) 
 fn write_cause(buffer: &mut [u8], source: &[u8], head: u8, kind: u8, cause: Run) -> Wrote
     ensures { λ r. ⌜ Writes (now (buffer .entry)) (head ∷ kind ∷ causeOctets (now (source .entry)) cause) (runFits (now (source .entry)) cause 247) r (now (buffer .exit)) ⌝ }
 {
-    if !run_fits(source, cause, CAUSE_MOST) {
+    if !cause_fits(source, cause) {
         return Wrote::OutOfRange;
     }
     let start = cause.start;
@@ -251,22 +200,6 @@ fn status_count(count: usize, state: Half, attributes: Half) -> usize
     ensures { λ r. ⌜ r ≡ 3 + count + halfCount state + halfCount attributes ⌝ }
 {
     3 + count + half_count(state) + half_count(attributes)
-}
-
-// Whether a STATUS fits: its fields, and at most 251 octets in all.
-fn status_fits(source: &[u8], cause: Run, state: Half, attributes: Half) -> bool
-    ensures { λ r. ⌜ r ≡ statusFits (now (source .entry)) cause state attributes ⌝ }
-{
-    if !run_fits(source, cause, CAUSE_MOST) {
-        return false;
-    }
-    if !half_fits(state) {
-        return false;
-    }
-    if !half_fits(attributes) {
-        return false;
-    }
-    status_count(cause.count, state, attributes) <= 251
 }
 
 // Table 8.6.

@@ -1,7 +1,7 @@
 -- `put_half` meets its contract: absent or there.
 use borrow.Author.Needs.{needs}
 use native.Mathlib.Omega.{arith}
-use Rattle.writing.proofs.Tests.{half-room, half-below}
+use Rattle.limits.proofs.Tests.{half-room, half-below}
 use Rattle.writing.proofs.Bodies.{put-none, put-one}
 use Rattle.writing.proofs.kinds.put_half.Statement.{statement}
 use Rattle.writing.proofs.kinds.put_half.Tie as tie

@@ -1,7 +1,7 @@
 -- `status_count` meets its contract: no half octet takes more than one.
 use borrow.Author.Needs.{needs}
 use native.Mathlib.Omega.{arith}
-use Rattle.writing.proofs.Tests.{half-small}
+use Rattle.limits.proofs.Tests.{half-small}
 use Rattle.writing.proofs.kinds.status_count.Statement.{statement}
 use Rattle.writing.proofs.kinds.status_count.Tie as tie
 

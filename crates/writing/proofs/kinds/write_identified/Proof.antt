@@ -5,15 +5,15 @@ use mathlib.Core.Path.{_≡_, sym, _∙_}
 use mathlib.Core.Bool.{true}
 use native.Mathlib.Omega.{arith}
 use lib.ListN.{length-set}
-use Rattle.writing.specs.Bodies.{runFits}
-use Rattle.writing.proofs.Tests.{good}
+use Rattle.limits.specs.Limits.{runFits}
+use Rattle.limits.proofs.Tests.{good}
 use Rattle.writing.proofs.Bodies.{refused, identified-done, no-room, identified-count}
 use Rattle.writing.proofs.kinds.write_identified.Statement.{statement}
 use Rattle.writing.proofs.kinds.write_identified.Tie as tie
 
 -- Past the first test the identity fits.
 run-is : (c : tie.Else1) → let a = c .before .before .before .before .args in runFits (a .source .now) (a .identity) 8 ≡ true
-run-is c = sym (c .before .run-fits .ensures) ∙ not-false _ (c .if1 .left)
+run-is c = sym (c .before .identity-fits .ensures) ∙ not-false _ (c .if1 .left)
 
 -- The tests, from where the copy is done.
 abbrev tested : tie.After-copy-to → tie.Else2
@@ -24,7 +24,7 @@ write-identified-spec =
     tie.close
     (tie.spec
     (λ c κs. search needs)
-    (λ c. refused _ _ _ (sym (c .before .run-fits .ensures) ∙ not-true _ (c .if1 .taken)))
+    (λ c. refused _ _ _ (sym (c .before .identity-fits .ensures) ∙ not-true _ (c .if1 .taken)))
     (λ c. omega (arith, good _ _ _ (run-is c)))
     (λ c. no-room _ _ _ _ (run-is (c .before)) (identified-count _ _ _ (run-is (c .before))) (c .if2 .taken))
     (λ c. search needs)

@@ -5,15 +5,15 @@ use mathlib.Core.Path.{_≡_, sym, _∙_}
 use mathlib.Core.Bool.{true}
 use native.Mathlib.Omega.{arith}
 use lib.ListN.{length, length-set}
-use Rattle.writing.specs.Bodies.{runFits}
-use Rattle.writing.proofs.Tests.{good}
+use Rattle.limits.specs.Limits.{runFits}
+use Rattle.limits.proofs.Tests.{good}
 use Rattle.writing.proofs.Bodies.{refused, immediate-key, immediate-run, immediate-done, no-room, immediate-both, immediate-count}
 use Rattle.writing.proofs.kinds.write_immediate_setup.Statement.{statement}
 use Rattle.writing.proofs.kinds.write_immediate_setup.Tie as tie
 
 -- Past the tests of its fields the identity fits.
 run-is : (c : tie.Else2) → let a = c .before .before .before .before .before .args in runFits (a .source .now) (a .identity) 8 ≡ true
-run-is c = sym (c .before .run-fits .ensures) ∙ not-false _ (c .if2 .left)
+run-is c = sym (c .before .identity-fits .ensures) ∙ not-false _ (c .if2 .left)
 
 -- The tests, from where the copy is done.
 abbrev tested : tie.After-copy-to → tie.Else3
@@ -29,7 +29,7 @@ write-immediate-setup-spec =
     (tie.spec
     (λ c. refused _ _ _ (immediate-key _ _ (c .if1 .taken)))
     (λ c κs. search needs)
-    (λ c. refused _ _ _ (immediate-run (c .before .before .before .before .before .args .key) _ (sym (c .before .run-fits .ensures) ∙ not-true _ (c .if2 .taken))))
+    (λ c. refused _ _ _ (immediate-run (c .before .before .before .before .before .args .key) _ (sym (c .before .identity-fits .ensures) ∙ not-true _ (c .if2 .taken))))
     (λ c. omega (arith, good _ _ _ (run-is c)))
     (λ c. no-room _ _ _ _ (immediate-both _ _ (c .before .before .before .if1 .left) (run-is (c .before))) (immediate-count _ _ _ _ _ _ (run-is (c .before))) (c .if3 .taken))
     (λ c. search needs)

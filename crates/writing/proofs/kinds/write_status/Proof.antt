@@ -5,8 +5,8 @@ use mathlib.Core.Path.{_≡_, sym, _∙_}
 use mathlib.Core.Bool.{true}
 use native.Mathlib.Omega.{arith}
 use lib.ListN.{length, length-set}
-use Rattle.writing.specs.Bodies.{runFits, statusFits, halfCount}
-use Rattle.writing.proofs.Tests.{good, fine, half-small}
+use Rattle.limits.specs.Limits.{runFits, statusFits, halfCount}
+use Rattle.limits.proofs.Tests.{good, fine, half-small}
 use Rattle.writing.proofs.Bodies.{refused, status-done, no-room, status-count}
 use Prim.Native.Nat.{_+_, _≤_}
 use Rattle.writing.proofs.kinds.write_status.Statement.{statement}
