@@ -2,6 +2,7 @@
 use log::Entry;
 use log::Found;
 use log::read_entry;
+use timer::Timers;
 
 // The picture is 297 mm wide, 4 units a millimetre. Time runs from LEFT to RIGHT, and its marks stay LEAD away from both.
 pub(crate) const MARGIN: u64 = 28;
@@ -21,9 +22,6 @@ const LONGEST: u64 = 60000;
 const START: u64 = 5000;
 
 pub(crate) const STRIP: u64 = 56;
-
-// The longest joining timer.
-pub(crate) const MOST_JOINING: u64 = 30000;
 
 // How the picture is drawn: units a second, milliseconds from one mark of the time axis to the next, and the joining timer's bounds.
 pub(crate) struct View {
@@ -141,7 +139,10 @@ pub(crate) fn joining_left(place: Place) -> u64 {
     if !place.joined {
         return 0;
     }
-    less(sum(place.start, MOST_JOINING), place.time)
+    less(
+        sum(place.start, Timers::JOINING_GREATEST as u64),
+        place.time,
+    )
 }
 
 fn strip_of(delta: u64) -> u64 {
