@@ -10,13 +10,13 @@ use borrow.Author.Tests.{leb-true}
 use Rattle.octets.proofs.Choice.{at-cond}
 use Rattle.codes.specs.Attributes.{parametersOf}
 use Rattle.context.specs.declared.Context.{Context}
-use Rattle.context.specs.Fit.{consistent}
+use Rattle.fitness.specs.Fitness.{Fitness, consistentBy}
+use Rattle.fitness.specs.First.{firstFitness}
 use Rattle.transitions.specs.declared.Send.{Send}
 use Rattle.transitions.specs.declared.Send.the-variants.{Nothing}
-use Rattle.transitions.specs.declared.Taken.{Taken}
 use Rattle.transitions.specs.declared.Decision.{Decision}
 use Rattle.transitions.specs.declared.Decision.the-variants.{Take, NoStep, Ignore, Report, TellStatus, SetParameters}
-use Rattle.transitions.specs.Table.{Row, stepTable, decidedBy}
+use Rattle.transitions.specs.Table.{Row, stepTable}
 use Rattle.transitions.proofs.Sound.{Sound, document-01}
 use Rattle.transitions.proofs.Decided.{OfTaken, decided-few}
 use Rattle.call.specs.declared.Due.{Due}
@@ -35,7 +35,7 @@ pub record Right (most : ℕ) (x : Context) (r : Stepped) : Type 0 where
   pub silent : (r .answer ≡ 0 → ⊥) → (r .answer ≡ 2 → ⊥) → r .sends ≡ Nothing
   pub few : r .actions ≤ most
 
-module _ (most : ℕ) (x : Context) where
+module _ (fitness : Fitness) (most : ℕ) (x : Context) where
   taken-right : (y : Context) (actions : ℕ) (sends : Send) → actions ≤ most → Right most x (took y actions sends)
   taken-right y actions sends few = record {
     numbered = omega arith;
@@ -59,7 +59,7 @@ module _ (most : ℕ) (x : Context) where
       at-cond (Right most x) (x .parameters .comm) _ _
       (λ e. record { numbered = omega arith; kept = λ n. refl; still = λ n. refl; silent = λ n m. elim (m refl) [ ]; few = omega arith }) (λ e. ignored-right)
 
-  carried-right : (d : Decision) (e : Seen) → OfTaken (λ d. leb (d .actions) most ≡ true) d → Right most x (carriedOut x d e)
+  carried-right : (d : Decision) (e : Seen) → OfTaken (λ d. leb (d .actions) most ≡ true) d → Right most x (carriedOut fitness x d e)
   unfolding carriedOut statusTold parametersSet
   carried-right (Take d) e f = taken-right _ (d .actions) (d .sends) (leb-true (d .actions) most f)
   carried-right NoStep e f = no-step-right
@@ -67,13 +67,13 @@ module _ (most : ℕ) (x : Context) where
   carried-right (Report cause) e f = reported-right cause
   carried-right TellStatus e f = at-cond (Right most x) (x .parameters .comm) _ _ (λ q. taken-right x 0 _ (omega arith)) (λ q. ignored-right)
   carried-right SetParameters e f =
-      at-cond (Right most x) (consistent (x .state) (parametersOf (e .attributes))) _ _ (λ q. taken-right _ 0 Nothing (omega arith)) (λ q. reported-right 98)
+      at-cond (Right most x) (consistentBy fitness (x .state) (parametersOf (e .attributes))) _ _ (λ q. taken-right _ 0 Nothing (omega arith)) (λ q. reported-right 98)
 
-  right-by : (table : List Row) → Sound most table → (event : Event) → Right most x (stepBy table x event)
+  right-by : (table : List Row) → Sound fitness most table → (event : Event) → Right most x (stepBy fitness table x event)
   unfolding stepBy
-  right-by table sound event = carried-right _ (seenOf event) (decided-few most table sound x (seenOf event .number) (seenOf event .code))
+  right-by table sound event = carried-right _ (seenOf event) (decided-few fitness most table sound x (seenOf event .number) (seenOf event .code))
 
-  settled-by : (table : List Row) → Sound most table → (due : Due) → Right most x (settledBy table x due)
+  settled-by : (table : List Row) → Sound fitness most table → (due : Due) → Right most x (settledBy fitness table x due)
   unfolding settledBy
   settled-by table sound (Steps event) = right-by table sound event
   settled-by table sound Ignored = ignored-right
@@ -82,4 +82,4 @@ module _ (most : ℕ) (x : Context) where
 
 -- By document 01's rows.
 pub settled-right : (x : Context) (due : Due) → Right 63 x (settled x due)
-settled-right x = settled-by 63 x stepTable document-01
+settled-right x = settled-by firstFitness 63 x stepTable document-01

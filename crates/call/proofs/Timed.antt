@@ -12,7 +12,7 @@ use Rattle.timer.specs.Timers.{runningAmong}
 use Rattle.context.specs.declared.Context.{Context}
 use Rattle.context.specs.States.{same}
 use Rattle.context.specs.Context.{cleared}
-use Rattle.context.specs.Fit.{consistent, fitOf}
+use Rattle.fitness.specs.Fitness.{Fitness, consistentBy, fitBy}
 use Rattle.context.specs.Running.{runs}
 use Rattle.transitions.specs.declared.Taken.{Taken}
 use Rattle.transitions.specs.declared.Decision.{Decision}
@@ -44,7 +44,7 @@ runs-after x d e = go (same (d .next) U0) refl
     go true u = rw u
     go false u = rw u
 
-module _ (x : Context) where
+module _ (fitness : Fitness) (x : Context) where
   abbrev pub Timed : ℕ → Stepped → Type 0
   Timed set r = rightly set (runs x) (runs (r .context)) ≡ true
 
@@ -60,7 +60,7 @@ module _ (x : Context) where
   unfolding reportedWith
   reported-timed cause = at-cond (Timed 0) (x .parameters .comm) _ _ (λ e. stays (runs x)) (λ e. ignored-timed)
 
-  carried-timed : (d : Decision) (e : Seen) → OfTaken (SetRightly x) d → Timed (setBy d) (carriedOut x d e)
+  carried-timed : (d : Decision) (e : Seen) → OfTaken (SetRightly x) d → Timed (setBy d) (carriedOut fitness x d e)
   unfolding carriedOut statusTold parametersSet
   carried-timed (Take d) e q = rw (runs-after x d e) q
   carried-timed NoStep e q = none-timed
@@ -68,12 +68,12 @@ module _ (x : Context) where
   carried-timed (Report cause) e q = reported-timed cause
   carried-timed TellStatus e q = at-cond (Timed 0) (x .parameters .comm) _ _ (λ u. stays (runs x)) (λ u. ignored-timed)
   carried-timed SetParameters e q =
-      at-cond (Timed 0) (consistent (x .state) (parametersOf (e .attributes))) _ _ (λ u. stays (runs x)) (λ u. reported-timed 98)
+      at-cond (Timed 0) (consistentBy fitness (x .state) (parametersOf (e .attributes))) _ _ (λ u. stays (runs x)) (λ u. reported-timed 98)
 
-  pub timed-by : (most : ℕ) (table : List Row) → Sound most table → fitOf x ≡ true → (due : Due) → Timed (setByDueIn table x due) (settledBy table x due)
+  pub timed-by : (most : ℕ) (table : List Row) → Sound fitness most table → fitBy fitness x ≡ true → (due : Due) → Timed (setByDueIn table x due) (settledBy fitness table x due)
   unfolding settledBy stepBy setByDueIn
   timed-by most table sound fit (Steps event) =
-      carried-timed (decidedBy table x (seenOf event .number) (seenOf event .code)) (seenOf event) (sets-rightly most table sound x fit (seenOf event .number) (seenOf event .code))
+      carried-timed (decidedBy table x (seenOf event .number) (seenOf event .code)) (seenOf event) (sets-rightly fitness most table sound x fit (seenOf event .number) (seenOf event .code))
   timed-by most table sound fit Ignored = ignored-timed
   timed-by most table sound fit (Reported cause) = reported-timed cause
   timed-by most table sound fit Refused = none-timed

@@ -9,8 +9,9 @@ use Rattle.codes.specs.Attributes.{parametersOf}
 use Rattle.message.specs.declared.Reference.{Reference}
 use Rattle.context.specs.declared.Context.{Context}
 use Rattle.context.specs.States.{same}
-use Rattle.context.specs.Context.{startRow, cleared}
-use Rattle.context.specs.Fit.{consistent}
+use Rattle.context.specs.Context.{entering, cleared}
+use Rattle.fitness.specs.Fitness.{Fitness, consistentBy}
+use Rattle.fitness.specs.First.{firstFitness}
 use Rattle.transitions.specs.declared.Send.{Send}
 use Rattle.transitions.specs.declared.Send.the-variants as Send
 use Rattle.transitions.specs.declared.Stores.{Stores}
@@ -24,9 +25,9 @@ use Rattle.call.specs.declared.Seen.{Seen}
 use Rattle.call.specs.declared.Stepped.{Stepped}
 use Rattle.call.specs.Events.{seenOf}
 
--- Entering a state sets its row. A step that stays in its state keeps the parameters.
+-- A step that stays in its state keeps the parameters; another enters its next state.
 unfoldable pub parametersAfter : Context → State → Parameters
-parametersAfter x next = cond (same (x .state) next) (x .parameters) (startRow next)
+parametersAfter x next = cond (same (x .state) next) (x .parameters) (entering next (x .parameters))
 
 -- What a row stores it has from the event, and keeps the rest.
 unfoldable pub valueAfter : Stores → (carried kept : ℕ) → ℕ
@@ -77,24 +78,24 @@ withParameters p x = record { state = x .state; parameters = p; timers = x .time
 
 -- SET PARAMETER: consistent values are set, answer 0, no reply. Inconsistent ones set nothing and are reported with the cause 6.5.1.2 names,
 -- "message incompatible with protocol state": 98.
-unfoldable pub parametersSet : ℕ → Context → Stepped
-parametersSet attributes x =
+unfoldable pub parametersSet : Fitness → ℕ → Context → Stepped
+parametersSet fitness attributes x =
     let p : Parameters = parametersOf attributes in
-    cond (consistent (x .state) p) (took (withParameters p x) 0 Send.Nothing) (reportedWith 98 x)
+    cond (consistentBy fitness (x .state) p) (took (withParameters p x) 0 Send.Nothing) (reportedWith 98 x)
 
 -- What the table's decision brings about.
-unfoldable pub carriedOut : Context → Decision → Seen → Stepped
-carriedOut x (Take d) e = took (afterwards x d e) (d .actions) (d .sends)
-carriedOut x NoStep e = noStep x
-carriedOut x Ignore e = ignored x
-carriedOut x (Report cause) e = reportedWith cause x
-carriedOut x TellStatus e = statusTold x
-carriedOut x SetParameters e = parametersSet (e .attributes) x
+unfoldable pub carriedOut : Fitness → Context → Decision → Seen → Stepped
+carriedOut fitness x (Take d) e = took (afterwards x d e) (d .actions) (d .sends)
+carriedOut fitness x NoStep e = noStep x
+carriedOut fitness x Ignore e = ignored x
+carriedOut fitness x (Report cause) e = reportedWith cause x
+carriedOut fitness x TellStatus e = statusTold x
+carriedOut fitness x SetParameters e = parametersSet fitness (e .attributes) x
 
--- The step of an event by a table: its row for the event, carried out.
-unfoldable pub stepBy : List Row → Context → Event → Stepped
-stepBy table x event = let e : Seen = seenOf event in carriedOut x (decidedBy table x (e .number) (e .code)) e
+-- The step of an event by a table's rows, and what it says of fitness: its row for the event, carried out.
+unfoldable pub stepBy : Fitness → List Row → Context → Event → Stepped
+stepBy fitness table x event = let e : Seen = seenOf event in carriedOut fitness x (decidedBy table x (e .number) (e .code)) e
 
--- By document 01's table.
+-- By document 01's.
 abbrev pub stepValue : Context → Event → Stepped
-stepValue = stepBy stepTable
+stepValue = stepBy firstFitness stepTable

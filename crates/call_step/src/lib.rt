@@ -1,5 +1,6 @@
 // The step of a call, by value: what the step table's row for an event brings about, and what else befalls what happens.
 ghost use mathlib.Core.Path.{_≡_};
+ghost use Rattle.fitness.specs.First.{firstFitness};
 ghost use Rattle.call.specs.Due.{settled};
 ghost use Rattle.call.specs.Step.{parametersAfter, valueAfter, referenceAfter, afterwards, noStep, ignored, reportedWith, statusTold, parametersSet, carriedOut, stepValue};
 use call::Due;
@@ -25,7 +26,7 @@ fn parameters_after(context: Context, next: State) -> Parameters
     if from == to {
         return context.parameters;
     }
-    context::start_row(next)
+    context::entering(next, context.parameters)
 }
 
 // The transaction value after a row: that of the event where the row stores it.
@@ -137,13 +138,13 @@ fn tell_status(context: Context) -> Stepped
 
 // SET PARAMETER: consistent values are set, inconsistent ones are reported with the cause that 6.5.1.2 names.
 fn set_parameters(context: Context, attributes: u8) -> Stepped
-    ensures { λ r. ⌜ r ≡ parametersSet attributes context ⌝ }
+    ensures { λ r. ⌜ r ≡ parametersSet firstFitness attributes context ⌝ }
 {
     let state = context.state;
     let timers = context.timers;
     let reference = context.reference;
     let parameters = codes::attributes::parameters_of(attributes);
-    if context::is_consistent(state, parameters) {
+    if fitness::is_consistent(state, parameters) {
         let set = Context {
             state,
             parameters,
@@ -163,7 +164,7 @@ fn set_parameters(context: Context, attributes: u8) -> Stepped
 
 // What the table's decision brings about.
 fn carry_out(context: Context, decision: Decision, seen: Seen) -> Stepped
-    ensures { λ r. ⌜ r ≡ carriedOut context decision seen ⌝ }
+    ensures { λ r. ⌜ r ≡ carriedOut firstFitness context decision seen ⌝ }
 {
     match decision {
         Decision::Take(taken) => {

@@ -1,9 +1,10 @@
--- A test that is computed over all states, and the rule that it gives at one of them; beside it the same of all timers.
-pub use Rattle.timer.proofs.Whole.{and-left, and-right, and-both, if-so, ofTimers, at-timers}
+-- Tests that are computed over all states and all parameters, and the rule that each gives at one of them; beside them the same of all timers.
+pub use Rattle.timer.proofs.Whole.{and-left, and-right, and-both, if-so, either, at-bool, ofTimers, at-timers}
 use mathlib.Core.Path.{_≡_}
 use mathlib.Core.Bool.{Bool, true, _&&_}
 use Rattle.codes.specs.declared.state.State.{State}
 use Rattle.codes.specs.declared.state.State.the-variants.{U0, U0p, U1, U2, U3, U4, U5, U6}
+use Rattle.codes.specs.declared.attributes.Parameters.{Parameters}
 
 -- The test holds in every state.
 abbrev pub inStates : (State → Bool) → Bool
@@ -23,3 +24,17 @@ at-state P e U5 =
 at-state P e U6 =
     and-right (P U5) _
     (and-right (P U4) _ (and-right (P U3) _ (and-right (P U2) _ (and-right (P U1) _ (and-right (P U0p) _ (and-right (P U0) _ e))))))
+
+abbrev parameters : Bool → Bool → Bool → Bool → Parameters
+parameters a b c d = record { orig = a; comm = b; datt = c; uatt = d }
+
+-- The test holds of all parameters.
+abbrev pub ofParameters : (Parameters → Bool) → Bool
+ofParameters P = either (λ a. either (λ b. either (λ c. either (λ d. P (parameters a b c d)))))
+
+pub at-parameters : (P : Parameters → Bool) → ofParameters P ≡ true → (p : Parameters) → P p ≡ true
+at-parameters P e p =
+    at-bool (λ d. P (parameters (p .orig) (p .comm) (p .datt) d))
+    (at-bool (λ c. either (λ d. P (parameters (p .orig) (p .comm) c d)))
+    (at-bool (λ b. either (λ c. either (λ d. P (parameters (p .orig) b c d))))
+    (at-bool (λ a. either (λ b. either (λ c. either (λ d. P (parameters a b c d))))) e (p .orig)) (p .comm)) (p .datt)) (p .uatt)

@@ -41,9 +41,13 @@ parametersIn r = record { orig = getD r 0 false; comm = getD r 1 false; datt = g
 abbrev pub startRowAt : ℕ → Parameters
 startRowAt n = parametersIn (getD startRows n [])
 
--- Entering a state sets its row.
+-- The row of a state.
 unfoldable pub startRow : State → Parameters
 startRow s = startRowAt (numberOf s)
+
+-- The parameters where a state is entered, by what they were before. Entering sets the state's row, whatever they were.
+unfoldable pub entering : State → Parameters → Parameters
+entering s before = startRow s
 
 -- Cleared means U0, parameters false, no timer, value 0, reference zero.
 unfoldable pub cleared : Context

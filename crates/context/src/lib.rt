@@ -1,9 +1,7 @@
-// The context of a call: its state, parameters, timers, transaction value and reference; which contexts are fit, and what a state starts with.
+// The context of a call: its state, parameters, timers, transaction value and reference; what a state starts with, and which flag is expected.
 ghost use mathlib.Core.Path.{_≡_};
-ghost use mathlib.Core.Bool.{false};
 ghost use Rattle.context.specs.States.{numberOf, flagOf};
-ghost use Rattle.context.specs.Context.{startRow, cleared};
-ghost use Rattle.context.specs.Fit.{consistent, timersFit, isCleared, fitOf};
+ghost use Rattle.context.specs.Context.{startRow, entering, cleared};
 use codes::attributes::Parameters;
 use codes::state::State;
 use message::Reference;
@@ -89,10 +87,18 @@ pub fn start_row(state: State) -> Parameters
     }
 }
 
-// The transaction flag of what is received in the state; what is sent has the opposite.
-pub fn expected_flag(state: State) -> bool
-    ensures { λ r. ⌜ r ≡ flagOf state ⌝ }
+// The parameters where a state is entered, by what they were before: today they are those of its row, whatever they were.
+pub fn entering(state: State, before: Parameters) -> Parameters
+    ensures { λ r. ⌜ r ≡ entering state before ⌝ }
 {
+    start_row(state)
+}
+
+// The transaction flag of what is received in the context; what is sent has the opposite.
+pub fn expected_flag(context: Context) -> bool
+    ensures { λ r. ⌜ r ≡ flagOf context ⌝ }
+{
+    let state = context.state;
     match state {
         State::U0 => false,
         State::U0p => true,
@@ -103,75 +109,4 @@ pub fn expected_flag(state: State) -> bool
         State::U5 => true,
         State::U6 => false,
     }
-}
-
-// Whether the parameters are consistent with the state, 6.1.2.1.11.
-pub fn is_consistent(state: State, parameters: Parameters) -> bool
-    ensures { λ r. ⌜ r ≡ consistent state parameters ⌝ }
-{
-    fits_state(state, parameters.orig, parameters.comm)
-}
-
-// The same of the two parameters that a state asks about. They come one by one, since four that are passed as one are first put together.
-fn fits_state(state: State, orig: bool, comm: bool) -> bool
-    ensures { λ r. ⌜ r ≡ consistent state (record { orig = orig; comm = comm; datt = false; uatt = false }) ⌝ }
-{
-    match state {
-        State::U0 => !comm,
-        State::U0p => true,
-        State::U1 => true,
-        State::U2 => true,
-        State::U3 => !orig & !comm,
-        State::U4 => !orig & !comm,
-        State::U5 => true,
-        State::U6 => !orig & !comm,
-    }
-}
-
-// Whether the timers that run are those of the state.
-fn timers_fit(state: State, timers: Timers) -> bool
-    ensures { λ r. ⌜ r ≡ timersFit state timers ⌝ }
-{
-    match state {
-        State::U0 => !timers.mmest & (!timers.term & (!timers.connreq & !timers.nochannel)),
-        State::U0p => timers.mmest & (!timers.term & (!timers.connreq & !timers.nochannel)),
-        State::U1 => !timers.term & (!timers.connreq & !timers.nochannel),
-        State::U2 => !timers.mmest & (!timers.term & (!timers.connreq & !timers.nochannel)),
-        State::U3 => !timers.mmest & (!timers.term & (!timers.connreq & !timers.nochannel)),
-        State::U4 => !timers.mmest & (!timers.term & (timers.connreq & !timers.nochannel)),
-        State::U5 => !timers.mmest & (!timers.connreq & !timers.nochannel),
-        State::U6 => !timers.mmest & (!timers.term & (!timers.connreq & true)),
-    }
-}
-
-// Whether everything beside the state is as in the cleared context.
-fn is_cleared(context: Context) -> bool
-    ensures { λ r. ⌜ r ≡ isCleared context ⌝ }
-{
-    let parameters = context.parameters;
-    let timers = context.timers;
-    let reference = context.reference;
-    let none_set = !parameters.orig & (!parameters.comm & (!parameters.datt & !parameters.uatt));
-    let none_runs = !timers.mmest & (!timers.term & (!timers.connreq & !timers.nochannel));
-    let zero = (reference.first == 0)
-        & ((reference.second == 0) & ((reference.third == 0) & (reference.fourth == 0)));
-    none_set & (none_runs & ((context.value == 0) & zero))
-}
-
-// Whether the context is one that a call can be in. What U0 alone asks is looked at in U0 alone.
-pub fn is_fit(context: Context) -> bool
-    ensures { λ r. ⌜ r ≡ fitOf context ⌝ }
-{
-    let state = context.state;
-    let timers = context.timers;
-    if !fits_state(state, context.parameters.orig, context.parameters.comm) {
-        return false;
-    }
-    if 6 < context.value {
-        return false;
-    }
-    if state_number(state) == 0 {
-        return is_cleared(context) & timers_fit(state, timers);
-    }
-    timers_fit(state, timers)
 }

@@ -8,10 +8,10 @@ use lib.Dec.{eqb}
 use lib.ListN.{length}
 use borrow.Author.Tests.{le-ltb, lt-ltb, eqb-true}
 use Rattle.context.specs.Context.{cleared}
-use Rattle.context.specs.Fit.{fitOf}
+use Rattle.fitness.specs.First.{fitOf}
 use Rattle.timer.specs.Timers.{runningAmong, joiningLeast, joiningGreatest}
 use Rattle.context.specs.Running.{runs}
-use Rattle.context.proofs.Fit.{cleared-fit}
+use Rattle.fitness.proofs.First.{cleared-fit}
 use Rattle.reply.specs.declared.Own.{Own}
 use Rattle.radio.proofs.Answers.{step-keeps-fit}
 use Rattle.log_number.specs.Number.{greatest, numberAt, onNumber}

@@ -9,8 +9,8 @@ use borrow.Author.Tests.{leb-true}
 use Rattle.codes.specs.declared.state.State.the-variants.{U0}
 use Rattle.context.specs.declared.Context.{Context}
 use Rattle.context.specs.Context.{cleared}
-use Rattle.context.specs.Fit.{fitOf}
-use Rattle.context.proofs.Fit.{fit-u0, fit-value}
+use Rattle.fitness.specs.First.{fitOf}
+use Rattle.fitness.proofs.First.{fit-u0, fit-value}
 use Rattle.transitions.specs.declared.Send.{Send}
 use Rattle.transitions.specs.declared.Send.the-variants.{Nothing}
 use Rattle.call.specs.declared.Stepped.{Stepped as Taken}
@@ -20,7 +20,7 @@ use Rattle.reply.specs.Reply.{replyOf}
 use Rattle.reply.proofs.Fits.{reply-short}
 use Rattle.radio.specs.declared.Happened.{Happened}
 use Rattle.radio.specs.Step.{dueTo, reactedTo, Reaction, refused, reacted, stepOf}
-use Rattle.radio.proofs.Range.{InRange, refused-most}
+use Rattle.radio.proofs.Range.{refused-most}
 use Rattle.radio.proofs.Reacting.{of-step, react-fit}
 
 -- Whatever is due keeps what the answers promise.

@@ -1,37 +1,22 @@
 -- What an event in range comes to: that a fit context stays fit, and the two ways of the step.
-use Prim.Native.Nat.{ℕ, _≤_}
+use Prim.Native.Nat.{ℕ}
 use mathlib.Core.Path.{_≡_, refl, sym, _∙_}
 use mathlib.Core.List.{List}
-use mathlib.Core.Bool.{Bool, true, false, cond, _||_}
+use mathlib.Core.Bool.{true, false, cond, _||_}
 use lib.Dec.{eqb, leb}
 use lib.ListN.{length}
 use lib.Seq.{sets}
 use borrow.Author.Tests.{eq-eqb, ne-eqb, eqb-true, leb-true}
 use Rattle.octets.proofs.Choice.{at-cond}
 use Rattle.message.specs.declared.Reference.{Reference}
-use Rattle.message.specs.declared.Message.{Message}
-use Rattle.message.specs.declared.Message.the-variants.{
-  Connect,
-  GetStatus,
-  ImmediateSetup,
-  SetParameter,
-  Setup,
-  Status,
-  Termination,
-  TerminationReject,
-  TerminationRequest,
-}
 use Rattle.context.specs.declared.Context.{Context}
-use Rattle.context.specs.Fit.{fitOf}
-use Rattle.context.proofs.Fit.{fit-value}
+use Rattle.fitness.specs.First.{fitOf}
+use Rattle.fitness.proofs.First.{fit-value}
 use Rattle.call.specs.declared.Due.{Due}
-use Rattle.call.specs.declared.Due.the-variants.{Steps, Ignored, Reported, Refused}
+use Rattle.call.specs.declared.Due.the-variants.{Steps, Refused}
 use Rattle.call.specs.declared.Event.{Event}
-use Rattle.call.specs.declared.Event.the-variants.{Received}
 use Rattle.call.specs.declared.Stepped.{Stepped as Taken}
-use Rattle.call.specs.Due.{settled}
-use Rattle.call.specs.Events.{seenMessage, seenOf}
-use Rattle.call.specs.Step.{ignored, noStep}
+use Rattle.call.specs.Events.{seenOf}
 use Rattle.call.proofs.Kept.{DueFit, received-value, settled-fit}
 use Rattle.reply.specs.declared.Own.{Own}
 use Rattle.reply.specs.Reply.{replyOf, putOf}
@@ -39,9 +24,7 @@ use Rattle.reply.proofs.Fits.{put-is-reply}
 use Rattle.received.specs.Due.{dueOf}
 use Rattle.received.proofs.Rules.{every-due}
 use Rattle.radio.specs.declared.Happened.{Happened}
-use Rattle.radio.specs.declared.Outcome.{Outcome}
 use Rattle.radio.specs.declared.Stepped.{Stepped}
-use Rattle.radio.specs.declared.Told.{Told}
 use Rattle.radio.specs.declared.Told.the-variants.{Is, NoEvent}
 use Rattle.radio.specs.Step.{events, eventOf, toldDue, dueTo, reactedTo, outOfRange, Reaction, refused, reacted, stepOf, takenOf, refusalOf, shown}
 use Rattle.radio.proofs.Numbers.{at-rows}

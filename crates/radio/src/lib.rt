@@ -100,7 +100,7 @@ fn is_out_of_range(key: u8, identity: usize, happened: Happened) -> bool
 fn fitness_refusal(context: Context) -> u8
     ensures { λ r. ⌜ r ≡ fitnessRefusal context ⌝ }
 {
-    if !context::is_fit(context) {
+    if !fitness::is_fit(context) {
         return 7;
     }
     0

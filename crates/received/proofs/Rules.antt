@@ -40,7 +40,7 @@ pub record Ours (x : Context) (s : List ℕ) : Type 0 where
   pub calling : same (x .state) U0 ≡ false
   pub two : ltb (length s) 2 ≡ false
   pub broadcast : eqb (getD s 0 0 % 16) discriminator ≡ true
-  pub transacted : transactionIs (flagOf (x .state)) (x .value) (getD s 0 0) ≡ true
+  pub transacted : transactionIs (flagOf x) (x .value) (getD s 0 0) ≡ true
 
 -- What is left after rule 1 goes by the type, and after rule 2 by what reading gives.
 module _ (identity : List ℕ) (x : Context) (mode : ℕ) (s : List ℕ) (ours : Ours x s) where
@@ -81,6 +81,6 @@ module _ (P : Due → Type 0) (ignored : P Ignored) (reported : (cause : ℕ) �
       at-cond P (same (x .state) U0) _ _ (λ e. ignored)
       (λ e. at-cond P (ltb (length s) 2) _ _ (λ e. ignored)
       (λ e. at-cond P (not (eqb (getD s 0 0 % 16) discriminator)) _ _ (λ e. ignored)
-      (λ e. at-cond P (not (transactionIs (flagOf (x .state)) (x .value) (getD s 0 0))) _ _ (λ e. ignored)
+      (λ e. at-cond P (not (transactionIs (flagOf x) (x .value) (getD s 0 0))) _ _ (λ e. ignored)
       (λ e. at-cond P (not (eqb (typeCause x (getD s 1 0)) 0)) _ _ (λ e. reported (typeCause x (getD s 1 0)))
       (λ e. every-read identity mode s (readMessage s))))))

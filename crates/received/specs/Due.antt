@@ -41,7 +41,7 @@ dueOf identity x mode s =
     cond (same (x .state) U0) Ignored
     (cond (ltb (length s) 2) Ignored
     (cond (not (eqb (getD s 0 0 % 16) discriminator)) Ignored
-    (cond (not (transactionIs (flagOf (x .state)) (x .value) (getD s 0 0))) Ignored
+    (cond (not (transactionIs (flagOf x) (x .value) (getD s 0 0))) Ignored
     -- 2. Unknown type: reported. A type with no row or sentence above in this state, or one the MS sends: reported as not compatible with the state.
     (cond (not (eqb (typeCause x (getD s 1 0)) 0)) (Reported (typeCause x (getD s 1 0)))
     -- 3. to 6.

@@ -148,7 +148,7 @@ pub fn listen(context: Context, identity: &[u8], mode: u8, octets: &[u8]) -> Due
     if first % 16 != 1 {
         return Due::Ignored;
     }
-    let flag = context::expected_flag(state);
+    let flag = context::expected_flag(context);
     if !transaction_is(flag, context.value, first) {
         return Due::Ignored;
     }

@@ -44,7 +44,7 @@ left false true d w = refl
 left false false d w = refl
 
 -- `put_message`: the flag is the opposite of the one expected, and the count what the writer answers.
-module _ (d s : List ℕ) (x : Context) (m : Message) (f : Bool) (e : f ≡ flagOf (x .state)) where
+module _ (d s : List ℕ) (x : Context) (m : Message) (f : Bool) (e : f ≡ flagOf x) where
   pub put-count : (w : Wrote) (n : ℕ) → w ≡ writeAnswer d s (not f) (x .value) m → n ≡ countOf w → n ≡ length (putFrom (length d) s x m)
   unfolding writeAnswer putFrom
   put-count w n p q = q ∙ ap countOf (p ∙ ap (λ (g : Bool). writeAnswer d s (not g) (x .value) m) e)

@@ -21,10 +21,11 @@ pub if-so : (a b : Bool) → (not a || b) ≡ true → a ≡ true → b ≡ true
 if-so true b e h = e
 if-so false b e h = never h
 
-abbrev either : (Bool → Bool) → Bool
+-- The test holds of both.
+abbrev pub either : (Bool → Bool) → Bool
 either P = P true && P false
 
-at-bool : (P : Bool → Bool) → either P ≡ true → (b : Bool) → P b ≡ true
+pub at-bool : (P : Bool → Bool) → either P ≡ true → (b : Bool) → P b ≡ true
 at-bool P e true = and-left (P true) _ e
 at-bool P e false = and-right (P true) _ e
 

@@ -1,5 +1,5 @@
 -- Document 01, "The context": the table of timers, a row a timer. (Its last column, where a timer runs, is part of what a fit context is.)
-use Prim.Native.Nat.{ℕ}
+use Prim.Native.Nat.{ℕ, _+_}
 use mathlib.Core.Bool.{Bool, false, cond, _&&_}
 use mathlib.Core.List.{List, [], _∷_}
 use lib.Dec.{eqb}
@@ -10,9 +10,9 @@ use Rattle.timer.specs.declared.Timers.{Timers}
 
 -- What a row says of its timer: its number, its milliseconds, and the event that is its expiry.
 pub record Row : Type 0 where
-  number : ℕ
-  milliseconds : ℕ
-  expiry : ℕ
+  pub number : ℕ
+  pub milliseconds : ℕ
+  pub expiry : ℕ
 
 abbrev pub row : ℕ → ℕ → ℕ → Row
 row number milliseconds expiry = record { number = number; milliseconds = milliseconds; expiry = expiry }
@@ -43,6 +43,10 @@ ofEach P = P MmEst && (P Term && (P ConnReq && P NoChannel))
 -- The number of a timer.
 abbrev pub timerNumber : Timer → ℕ
 timerNumber k = timerRow 0 k .number
+
+-- The same timer.
+abbrev pub sameTimer : Timer → Timer → Bool
+sameTimer a b = eqb (timerNumber a) (timerNumber b)
 
 -- Two columns of the table beside one another.
 abbrev pub columns : (Timer → ℕ × ℕ) → List Timer → List (ℕ × ℕ)
@@ -78,6 +82,14 @@ firstOn t (k ∷ more) = cond (isOn k t) (timerNumber k) (firstOn t more)
 
 unfoldable pub runningAmong : Timers → ℕ
 runningAmong t = firstOn t allTimers
+
+-- How many run.
+abbrev pub countOn : Timers → List Timer → ℕ
+countOn t [] = 0
+countOn t (k ∷ more) = cond (isOn k t) 1 0 + countOn t more
+
+abbrev pub howMany : Timers → ℕ
+howMany t = countOn t allTimers
 
 -- The timers with one of them running or not.
 unfoldable pub withTimer : Timer → Bool → Timers → Timers

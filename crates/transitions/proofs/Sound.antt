@@ -8,7 +8,10 @@ use lib.Dec.{eqb, leb}
 use Rattle.codes.specs.declared.state.State.the-variants.{U0}
 use Rattle.timer.specs.Timers.{isOn, timerNumber, runningAmong, withTimer}
 use Rattle.context.specs.States.{same}
-use Rattle.context.specs.Fit.{timersFit}
+use Rattle.fitness.specs.Fitness.{Fitness, timersFitBy}
+use Rattle.fitness.specs.First.{firstFitness}
+use Rattle.fitness.proofs.Sound.{Sound as SoundFitness}
+use Rattle.fitness.proofs.First.{first-sound}
 use Rattle.transitions.specs.declared.Send.{Send}
 use Rattle.transitions.specs.declared.Send.the-variants.{Nothing, ImmediateSetup, Setup, TerminationRequest, Status, ErrorStatus}
 use Rattle.transitions.specs.Table.{
@@ -50,20 +53,20 @@ singles [] = true
 singles (row places occasion next actions effects ∷ more) = single effects && singles more
 
 -- Timers that fit the state fit the next one afterwards; unless that is U0, which clears.
-abbrev pub keepsFit : Test
-keepsFit n s t d = same (d .next) U0 || (not (timersFit s t) || timersFit (d .next) (timersAfter d t))
+abbrev pub keepsFit : Fitness → Test
+keepsFit fitness n s t d = same (d .next) U0 || (not (timersFitBy fitness s t) || timersFitBy fitness (d .next) (timersAfter d t))
 
 -- No timer is set that runs.
-abbrev pub setsFresh : Test
-setsFresh n s t d = not (timersFit s t) || not (isOn (d .sets) t)
+abbrev pub setsFresh : Fitness → Test
+setsFresh fitness n s t d = not (timersFitBy fitness s t) || not (isOn (d .sets) t)
 
 -- By numbers of timers, of what is set, what ran before and what runs after: what is set did not run, and runs; where none is set, what runs is what ran.
 abbrev pub rightly : ℕ → ℕ → ℕ → Bool
 rightly started before after = cond (eqb started 0) (eqb after 0 || eqb after before) (eqb after started && not (eqb before started))
 
-abbrev pub setsRightly : Test
-setsRightly n s t d =
-    not (timersFit s t) || rightly (timerNumber (d .sets)) (runningAmong t) (cond (same (d .next) U0) 0 (runningAmong (timersAfter d t)))
+abbrev pub setsRightly : Fitness → Test
+setsRightly fitness n s t d =
+    not (timersFitBy fitness s t) || rightly (timerNumber (d .sets)) (runningAmong t) (cond (same (d .next) U0) 0 (runningAmong (timersAfter d t)))
 
 -- The actions are at most a number.
 abbrev pub atMost : ℕ → Test
@@ -81,19 +84,22 @@ isPlain (ErrorStatus cause) = false
 abbrev pub sendsPlain : Test
 sendsPlain n s t d = isPlain (d .sends)
 
-pub record Sound (most : ℕ) (table : List Row) : Type 0 where
+-- The rows of a table are sound by what it says of fitness, with actions of at most a number.
+pub record Sound (fitness : Fitness) (most : ℕ) (table : List Row) : Type 0 where
+  pub fitness-sound : SoundFitness fitness
   pub effects-single : singles table ≡ true
   pub types-known : ofTypes table ≡ true
-  pub fit-kept : passes keepsFit table ≡ true
-  pub set-fresh : passes setsFresh table ≡ true
-  pub set-rightly : passes setsRightly table ≡ true
+  pub fit-kept : passes (keepsFit fitness) table ≡ true
+  pub set-fresh : passes (setsFresh fitness) table ≡ true
+  pub set-rightly : passes (setsRightly fitness) table ≡ true
   pub actions-few : passes (atMost most) table ≡ true
   pub sent-plain : passes sendsPlain table ≡ true
 
 -- Document 01's rows are sound, and their actions are at most 63: that is all six of them, and the most that a log takes.
-pub document-01 : Sound 63 stepTable
-unfolding stepTable timersFit runningAmong withTimer
+pub document-01 : Sound firstFitness 63 stepTable
+unfolding stepTable firstFitness timersFitBy runningAmong withTimer
 document-01 = record {
+  fitness-sound = first-sound;
   effects-single = refl;
   types-known = refl;
   fit-kept = refl;

@@ -1,7 +1,7 @@
 -- What an event does not carry has no effect on its step.
 use Prim.Native.Nat.{ℕ}
 use mathlib.Core.Path.{_≡_, refl, sym}
-use mathlib.Core.Bool.{Bool, true, false, not, _||_}
+use mathlib.Core.Bool.{Bool, true, false, _||_}
 use mathlib.Core.List.{List, []}
 use lib.Dec.{eqb}
 use borrow.Author.Tests.{eqb-true}
@@ -12,6 +12,7 @@ use Rattle.transitions.specs.declared.Send.{Send}
 use Rattle.transitions.specs.declared.Send.the-variants.{Nothing, ImmediateSetup, Setup, TerminationRequest, Status, ErrorStatus}
 use Rattle.transitions.specs.declared.Decision.{Decision}
 use Rattle.transitions.specs.declared.Decision.the-variants.{Take, NoStep, Ignore, Report, TellStatus, SetParameters}
+use Rattle.fitness.specs.First.{firstFitness}
 use Rattle.transitions.specs.Table.{stepTable}
 use Rattle.transitions.proofs.Sound.{isPlain, document-01}
 use Rattle.transitions.proofs.Decided.{Plain, event-plain as by-rows}
@@ -60,7 +61,7 @@ plain-reply own identity s u x (ErrorStatus cause) e = never e
 abbrev PlainTaken : Taken → Type 0
 PlainTaken t = isPlain (t .sends) ≡ true
 
-carried-plain : (x : Context) (d : Decision) (e : Seen) → Plain d → PlainTaken (carriedOut x d e)
+carried-plain : (x : Context) (d : Decision) (e : Seen) → Plain d → PlainTaken (carriedOut firstFitness x d e)
 unfolding carriedOut noStep ignored
 carried-plain x (Take d) e p = p
 carried-plain x NoStep e p = refl
@@ -71,7 +72,7 @@ carried-plain x SetParameters e p = absurd p
 
 event-plain : (x : Context) (t : Told) → NoMessage t → PlainTaken (settled x (toldDue t))
 unfolding settledBy toldDue stepBy noStep
-event-plain x (Is event) h = carried-plain x _ (seenOf event) (by-rows 63 stepTable document-01 x (seenOf event .number) (seenOf event .code) h)
+event-plain x (Is event) h = carried-plain x _ (seenOf event) (by-rows firstFitness 63 stepTable document-01 x (seenOf event .number) (seenOf event .code) h)
 event-plain x NoEvent h = refl
 
 -- ---- the step

@@ -3,8 +3,9 @@ use Prim.Native.Nat.{ℕ}
 use mathlib.Core.Path.{_≡_, refl}
 use mathlib.Core.List.{List, [], _∷_, _++_}
 use Rattle.codes.specs.Attributes.{weighs}
-use Rattle.context.specs.Context.{startRow, cleared}
-use Rattle.context.specs.Fit.{consistent, timersFit, isCleared, fitOf}
+use Rattle.context.specs.Context.{startRow, entering, cleared}
+use Rattle.fitness.specs.Fitness.{consistentBy, timersFitBy, isCleared, fitBy}
+use Rattle.fitness.specs.First.{firstFitness}
 use Rattle.timer.specs.Timers.{runningAmong, expiryOf, lengthOf, withTimer}
 use Rattle.transitions.specs.Table.{stepTable, heardIn, happenedIn, decidedIn, decidedBy}
 use Rattle.call.specs.Due.{settledBy}
@@ -88,5 +89,5 @@ Answered (c ∷ cs) =
     ((answerNumber (judgeOf own identity (c .0)) ≡ c .1) × (answerValues (judgeOf own identity (c .0)) ≡ c .2)) × Answered cs
 
 pub all-cases : Answered cases
-unfolding judgeOf versionJudged settingsOut judgeOne judge judgeFrom turn narrow entries entriesIn numberAt groupsAt joined upTo smallAt runAt callAt receivedAt dataAt claimAt restAt entryAt carriesCall agree parametersNumber weighs stepOf refusalOf fitnessRefusal argumentRefusal outOfRange reactedTo dueTo eventOf toldDue settledBy stepBy seenOf carriedOut decidedBy decidedIn stepTable heardIn happenedIn noStep ignored afterwards withTimer parametersAfter startRow valueAfter referenceAfter cleared fitOf consistent timersFit isCleared runningAmong expiryOf lengthOf replyOf dueOf sameOctets
+unfolding judgeOf versionJudged settingsOut judgeOne judge judgeFrom turn narrow entries entriesIn numberAt groupsAt joined upTo smallAt runAt callAt receivedAt dataAt claimAt restAt entryAt carriesCall agree parametersNumber weighs stepOf refusalOf fitnessRefusal argumentRefusal outOfRange reactedTo dueTo eventOf toldDue settledBy stepBy seenOf carriedOut decidedBy decidedIn stepTable heardIn happenedIn noStep ignored afterwards withTimer parametersAfter entering startRow valueAfter referenceAfter cleared fitBy consistentBy timersFitBy isCleared runningAmong expiryOf lengthOf replyOf dueOf sameOctets firstFitness
 all-cases = ((refl, refl), ((refl, refl), ((refl, refl), ((refl, refl), ((refl, refl), ((refl, refl), ((refl, refl), ((refl, refl), ((refl, refl), ((refl, refl), ((refl, refl), ((refl, refl), tt))))))))))))

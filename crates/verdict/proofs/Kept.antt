@@ -7,8 +7,8 @@ use lib.Dec.{leb}
 use borrow.Author.Tests.{le-ltb}
 use Rattle.octets.proofs.Choice.{never}
 use Rattle.context.specs.declared.Context.{Context}
-use Rattle.context.specs.Fit.{fitOf}
-use Rattle.context.proofs.Fit.{cleared-fit}
+use Rattle.fitness.specs.First.{fitOf}
+use Rattle.fitness.proofs.First.{cleared-fit}
 use Rattle.reply.specs.declared.Own.{Own}
 use Rattle.radio.specs.Step.{argumentRefusal, refusalOf, Reaction, stepOf}
 use Rattle.radio.proofs.Answers.{step-honest, step-keeps-fit}

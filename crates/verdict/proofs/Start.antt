@@ -8,7 +8,7 @@ use lib.ListN.{length}
 use borrow.Author.Tests.{not-true, eqb-true, eqb-false, ne-eqb}
 use Rattle.octets.proofs.Choice.{never}
 use Rattle.context.specs.declared.Context.{Context}
-use Rattle.context.specs.Fit.{fitOf}
+use Rattle.fitness.specs.First.{firstFitness, fitOf}
 use Rattle.context.specs.Running.{runs}
 use Rattle.context.proofs.Whole.{and-left, and-right}
 use Rattle.transitions.specs.Table.{stepTable}
@@ -35,7 +35,7 @@ step-right own identity x e fit = go (eqb (refusalOf x (own .key) (length identi
     go : (b : Bool) → rightly (cond b (setByDue x (dueTo identity x (e .happened) (e .octets))) 0) (runs x)
         (runs (cond b (reacted own identity (e .octets) (reactedTo identity x (e .happened) (e .octets)))
         (refused (refusalOf x (own .key) (length identity) (e .happened) (length (e .octets)) 255) x) .context)) ≡ true
-    go true = timed-by x 63 stepTable document-01 fit (dueTo identity x (e .happened) (e .octets))
+    go true = timed-by firstFitness x 63 stepTable document-01 fit (dueTo identity x (e .happened) (e .octets))
     go false = stays (runs x)
 
 one-of : (a b : Bool) → (a || b) ≡ true → a ≡ false → b ≡ true

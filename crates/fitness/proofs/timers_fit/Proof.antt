@@ -1,11 +1,12 @@
 -- `timers_fit` meets its contract, state by state.
 use borrow.Author.Needs.{needs}
-use Rattle.context.specs.Fit.{timersFit}
-use Rattle.context.proofs.timers_fit.Statement.{statement}
-use Rattle.context.proofs.timers_fit.Tie as tie
+use Rattle.fitness.specs.Fitness.{timersFitBy}
+use Rattle.fitness.specs.First.{firstFitness}
+use Rattle.fitness.proofs.timers_fit.Statement.{statement}
+use Rattle.fitness.proofs.timers_fit.Tie as tie
 
 pub timers-fit-spec : {M : Type 1} → statement M
-unfolding timersFit
+unfolding timersFitBy firstFitness
 timers-fit-spec =
     tie.close
     (tie.spec

@@ -1,11 +1,12 @@
 -- `fits_state` meets its contract, state by state.
 use borrow.Author.Needs.{needs}
-use Rattle.context.specs.Fit.{consistent}
-use Rattle.context.proofs.fits_state.Statement.{statement}
-use Rattle.context.proofs.fits_state.Tie as tie
+use Rattle.fitness.specs.Fitness.{consistentBy}
+use Rattle.fitness.specs.First.{firstFitness}
+use Rattle.fitness.proofs.fits_state.Statement.{statement}
+use Rattle.fitness.proofs.fits_state.Tie as tie
 
 pub fits-state-spec : {M : Type 1} → statement M
-unfolding consistent
+unfolding consistentBy firstFitness
 fits-state-spec =
     tie.close
     (tie.spec

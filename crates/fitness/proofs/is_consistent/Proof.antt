@@ -1,9 +1,9 @@
 -- `is_consistent` meets its contract: a state asks about two of the parameters.
 use borrow.Author.Needs.{needs}
 use mathlib.Core.Path.{sym, _∙_}
-use Rattle.context.proofs.Consistent.{by-two}
-use Rattle.context.proofs.is_consistent.Statement.{statement}
-use Rattle.context.proofs.is_consistent.Tie as tie
+use Rattle.fitness.proofs.Consistent.{by-two}
+use Rattle.fitness.proofs.is_consistent.Statement.{statement}
+use Rattle.fitness.proofs.is_consistent.Tie as tie
 
 pub is-consistent-spec : {M : Type 1} → statement M
 is-consistent-spec =
