@@ -23,12 +23,12 @@ use Rattle.call.specs.declared.Due.{Due}
 use Rattle.call.specs.declared.Due.the-variants.{Steps, Ignored, Reported, Refused}
 use Rattle.call.specs.declared.Event.{Event}
 use Rattle.call.specs.declared.Seen.{Seen}
-use Rattle.call.specs.declared.Stepped.{Stepped}
+use Rattle.call.specs.declared.Settled.{Settled}
 use Rattle.call.specs.Events.{seenOf}
 use Rattle.call.specs.Step.{took, ignored, noStep, reportedWith, statusTold, parametersSet, carriedOut, stepBy}
 use Rattle.call.specs.Due.{settledBy, settled}
 
-pub record Right (most : ℕ) (x : Context) (r : Stepped) : Type 0 where
+pub record Right (most : ℕ) (x : Context) (r : Settled) : Type 0 where
   pub numbered : r .answer ≤ 3
   pub kept : (r .answer ≡ 0 → ⊥) → r .context ≡ x
   pub still : (r .answer ≡ 0 → ⊥) → r .actions ≡ 0

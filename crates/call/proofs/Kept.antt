@@ -2,7 +2,7 @@
 use Prim.Native.Nat.{ℕ}
 use mathlib.Core.Path.{_≡_, refl, sym, subst}
 use mathlib.Core.List.{List}
-use mathlib.Core.Bool.{Bool, true, false, not, _||_}
+use mathlib.Core.Bool.{Bool, true, false, not, _&&_, _||_}
 use lib.Dec.{leb}
 use borrow.Author.Tests.{not-true}
 use Rattle.octets.proofs.Choice.{at-cond, never}
@@ -36,7 +36,7 @@ use Rattle.transitions.specs.declared.Stores.the-variants.{Nothing, ValueAndRef
 use Rattle.transitions.specs.declared.Taken.{Taken}
 use Rattle.transitions.specs.declared.Decision.{Decision}
 use Rattle.transitions.specs.declared.Decision.the-variants.{Take, NoStep, Ignore, Report, TellStatus, SetParameters}
-use Rattle.transitions.specs.Table.{Row, stepTable, timersAfter}
+use Rattle.transitions.specs.Table.{Row, stepTable, timersAfter, decidedBy}
 use Rattle.transitions.proofs.Sound.{Sound, document-01}
 use Rattle.transitions.proofs.Decided.{Keeps, decided-keeps}
 use Rattle.call.specs.declared.Due.{Due}
@@ -44,7 +44,7 @@ use Rattle.call.specs.declared.Due.the-variants.{Steps, Ignored, Reporte
 use Rattle.call.specs.declared.Event.{Event}
 use Rattle.call.specs.declared.Event.the-variants.{Received}
 use Rattle.call.specs.declared.Seen.{Seen}
-use Rattle.call.specs.declared.Stepped.{Stepped}
+use Rattle.call.specs.declared.Settled.{Settled}
 use Rattle.call.specs.Events.{seenMessage, seenOf}
 use Rattle.call.specs.Step.{
   parametersAfter,
@@ -85,14 +85,14 @@ DueFit Refused = Unit {0}
 
 -- ---- after a step
 
-abbrev pub Fit : Stepped → Type 0
+abbrev pub Fit : Settled → Type 0
 Fit r = fitOf (r .context) ≡ true
 
 module _ (fitness : Fitness) (most : ℕ) (table : List Row) (sound : Sound fitness most table) (x : Context) (fit : fitBy fitness x ≡ true) where
   abbrev StaysFit : Context → Type 0
   StaysFit y = fitBy fitness y ≡ true
 
-  abbrev StepFits : Stepped → Type 0
+  abbrev StepFits : Settled → Type 0
   StepFits r = StaysFit (r .context)
 
   parameters-fit : (next : State) → consistentBy fitness next (parametersAfter x next) ≡ true

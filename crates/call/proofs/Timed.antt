@@ -23,7 +23,7 @@ use Rattle.transitions.proofs.Decided.{OfTaken, SetRightly, sets-rightly}
 use Rattle.call.specs.declared.Due.{Due}
 use Rattle.call.specs.declared.Due.the-variants.{Steps, Ignored, Reported, Refused}
 use Rattle.call.specs.declared.Seen.{Seen}
-use Rattle.call.specs.declared.Stepped.{Stepped}
+use Rattle.call.specs.declared.Settled.{Settled}
 use Rattle.call.specs.Events.{seenOf}
 use Rattle.call.specs.Step.{afterwards, ignored, noStep, reportedWith, statusTold, parametersSet, carriedOut, stepBy}
 use Rattle.call.specs.Due.{settledBy}
@@ -45,7 +45,7 @@ runs-after x d e = go (same (d .next) U0) refl
     go false u = rw u
 
 module _ (fitness : Fitness) (x : Context) where
-  abbrev pub Timed : ℕ → Stepped → Type 0
+  abbrev pub Timed : ℕ → Settled → Type 0
   Timed set r = rightly set (runs x) (runs (r .context)) ≡ true
 
   ignored-timed : Timed 0 (ignored x)

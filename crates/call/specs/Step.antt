@@ -22,7 +22,7 @@ use Rattle.transitions.specs.declared.Decision.the-variants.{Take, NoStep, Igno
 use Rattle.transitions.specs.Table.{Row, stepTable, timersAfter, decidedBy}
 use Rattle.call.specs.declared.Event.{Event}
 use Rattle.call.specs.declared.Seen.{Seen}
-use Rattle.call.specs.declared.Stepped.{Stepped}
+use Rattle.call.specs.declared.Settled.{Settled}
 use Rattle.call.specs.Events.{seenOf}
 
 -- A step that stays in its state keeps the parameters; another enters its next state.
@@ -53,23 +53,23 @@ afterwards x d e =
     })
 
 -- Answer 0: taken.
-abbrev pub took : Context → ℕ → Send → Stepped
+abbrev pub took : Context → ℕ → Send → Settled
 took x actions sends = record { answer = 0; context = x; actions = actions; sends = sends }
 
 -- Answer 1: message ignored.
-unfoldable pub ignored : Context → Stepped
+unfoldable pub ignored : Context → Settled
 ignored x = record { answer = 1; context = x; actions = 0; sends = Send.Nothing }
 
 -- Answer 3: event has no step here.
-unfoldable pub noStep : Context → Stepped
+unfoldable pub noStep : Context → Settled
 noStep x = record { answer = 3; context = x; actions = 0; sends = Send.Nothing }
 
 -- "Reported" means answer 2 and a STATUS if COMM was true, else answer 1.
-unfoldable pub reportedWith : ℕ → Context → Stepped
+unfoldable pub reportedWith : ℕ → Context → Settled
 reportedWith cause x = cond (x .parameters .comm) (record { answer = 2; context = x; actions = 0; sends = Send.ErrorStatus cause }) (ignored x)
 
 -- GET STATUS: with COMM true answer 0 and a STATUS with cause 30, else ignored.
-unfoldable pub statusTold : Context → Stepped
+unfoldable pub statusTold : Context → Settled
 statusTold x = cond (x .parameters .comm) (took x 0 (Send.Status 30)) (ignored x)
 
 -- The context with other parameters.
@@ -78,13 +78,13 @@ withParameters p x = record { state = x .state; parameters = p; timers = x .time
 
 -- SET PARAMETER: consistent values are set, answer 0, no reply. Inconsistent ones set nothing and are reported with the cause 6.5.1.2 names,
 -- "message incompatible with protocol state": 98.
-unfoldable pub parametersSet : Fitness → ℕ → Context → Stepped
+unfoldable pub parametersSet : Fitness → ℕ → Context → Settled
 parametersSet fitness attributes x =
     let p : Parameters = parametersOf attributes in
     cond (consistentBy fitness (x .state) p) (took (withParameters p x) 0 Send.Nothing) (reportedWith 98 x)
 
 -- What the table's decision brings about.
-unfoldable pub carriedOut : Fitness → Context → Decision → Seen → Stepped
+unfoldable pub carriedOut : Fitness → Context → Decision → Seen → Settled
 carriedOut fitness x (Take d) e = took (afterwards x d e) (d .actions) (d .sends)
 carriedOut fitness x NoStep e = noStep x
 carriedOut fitness x Ignore e = ignored x
@@ -93,9 +93,9 @@ carriedOut fitness x TellStatus e = statusTold x
 carriedOut fitness x SetParameters e = parametersSet fitness (e .attributes) x
 
 -- The step of an event by a table's rows, and what it says of fitness: its row for the event, carried out.
-unfoldable pub stepBy : Fitness → List Row → Context → Event → Stepped
+unfoldable pub stepBy : Fitness → List Row → Context → Event → Settled
 stepBy fitness table x event = let e : Seen = seenOf event in carriedOut fitness x (decidedBy table x (e .number) (e .code)) e
 
 -- By document 01's.
-abbrev pub stepValue : Context → Event → Stepped
+abbrev pub stepValue : Context → Event → Settled
 stepValue = stepBy firstFitness stepTable

@@ -39,8 +39,8 @@ pub struct Seen {
     pub attributes: u8,
 }
 
-// What a step comes to; the answer is document 01's number.
-pub struct Stepped {
+// What is due, settled: what a step comes to before its reply is octets. The answer is document 01's number.
+pub struct Settled {
     pub answer: u8,
     pub context: Context,
     pub actions: u8,

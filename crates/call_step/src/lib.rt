@@ -6,7 +6,7 @@ ghost use Rattle.call.specs.Step.{parametersAfter, valueAfter, referenceAfter, 
 use call::Due;
 use call::Event;
 use call::Seen;
-use call::Stepped;
+use call::Settled;
 use codes::attributes::Parameters;
 use codes::state::State;
 use context::Context;
@@ -81,10 +81,10 @@ fn afterwards(context: Context, taken: Taken, seen: Seen) -> Context
 }
 
 // An event that has no step here.
-fn refuse(context: Context) -> Stepped
+fn refuse(context: Context) -> Settled
     ensures { λ r. ⌜ r ≡ noStep context ⌝ }
 {
-    Stepped {
+    Settled {
         answer: 3,
         context,
         actions: 0,
@@ -93,10 +93,10 @@ fn refuse(context: Context) -> Stepped
 }
 
 // A message that is ignored.
-fn ignore(context: Context) -> Stepped
+fn ignore(context: Context) -> Settled
     ensures { λ r. ⌜ r ≡ ignored context ⌝ }
 {
-    Stepped {
+    Settled {
         answer: 1,
         context,
         actions: 0,
@@ -105,12 +105,12 @@ fn ignore(context: Context) -> Stepped
 }
 
 // A message that is reported with this cause: a STATUS if COMM was true, else ignored.
-fn report(context: Context, cause: u8) -> Stepped
+fn report(context: Context, cause: u8) -> Settled
     ensures { λ r. ⌜ r ≡ reportedWith cause context ⌝ }
 {
     let parameters = context.parameters;
     if parameters.comm {
-        return Stepped {
+        return Settled {
             answer: 2,
             context,
             actions: 0,
@@ -121,12 +121,12 @@ fn report(context: Context, cause: u8) -> Stepped
 }
 
 // GET STATUS: a STATUS with cause 30 if COMM is true, else ignored.
-fn tell_status(context: Context) -> Stepped
+fn tell_status(context: Context) -> Settled
     ensures { λ r. ⌜ r ≡ statusTold context ⌝ }
 {
     let told = context.parameters;
     if told.comm {
-        return Stepped {
+        return Settled {
             answer: 0,
             context,
             actions: 0,
@@ -137,7 +137,7 @@ fn tell_status(context: Context) -> Stepped
 }
 
 // SET PARAMETER: consistent values are set, inconsistent ones are reported with the cause that 6.5.1.2 names.
-fn set_parameters(context: Context, attributes: u8) -> Stepped
+fn set_parameters(context: Context, attributes: u8) -> Settled
     ensures { λ r. ⌜ r ≡ parametersSet firstFitness attributes context ⌝ }
 {
     let state = context.state;
@@ -152,7 +152,7 @@ fn set_parameters(context: Context, attributes: u8) -> Stepped
             value: context.value,
             reference,
         };
-        return Stepped {
+        return Settled {
             answer: 0,
             context: set,
             actions: 0,
@@ -163,14 +163,14 @@ fn set_parameters(context: Context, attributes: u8) -> Stepped
 }
 
 // What the table's decision brings about.
-fn carry_out(context: Context, decision: Decision, seen: Seen) -> Stepped
+fn carry_out(context: Context, decision: Decision, seen: Seen) -> Settled
     ensures { λ r. ⌜ r ≡ carriedOut firstFitness context decision seen ⌝ }
 {
     match decision {
         Decision::Take(taken) => {
             let after = afterwards(context, taken, seen);
             let sends = taken.sends;
-            Stepped {
+            Settled {
                 answer: 0,
                 context: after,
                 actions: taken.actions,
@@ -186,7 +186,7 @@ fn carry_out(context: Context, decision: Decision, seen: Seen) -> Stepped
 }
 
 // The step: the table's row for the event, carried out.
-pub fn step(context: Context, event: Event) -> Stepped
+pub fn step(context: Context, event: Event) -> Settled
     ensures { λ r. ⌜ r ≡ stepValue context event ⌝ }
 {
     let seen = call::seen_event(event);
@@ -195,7 +195,7 @@ pub fn step(context: Context, event: Event) -> Stepped
 }
 
 // What is due, done. All that happens comes through here, so that the step stands in one place of a program and is built into it.
-pub fn settle(context: Context, due: Due) -> Stepped
+pub fn settle(context: Context, due: Due) -> Settled
     ensures { λ r. ⌜ r ≡ settled context due ⌝ }
 {
     match due {

@@ -33,6 +33,13 @@ use element::Found;
 use element::counted_at;
 use element::seek;
 
+// How many octets a mobile identity and a cause have behind their length octet.
+const LEAST: u8 = 1;
+
+const IDENTITY_MOST: u8 = 8;
+
+const CAUSE_MOST: u8 = 247;
+
 // The reference at a place.
 fn reference_at(octets: &[u8], at: usize) -> Reference
     requires { ⌜ at + 4 ≤ length (now octets) ⌝ }
@@ -95,7 +102,7 @@ fn identity_behind(octets: &[u8], place: usize) -> Identity
     requires { ⌜ place + 1 ≤ length (now octets) ⌝ }
     ensures { λ r. ⌜ r ≡ identityBehind (now (octets .entry)) place ⌝ }
 {
-    match counted_at(octets, place + 1, 1, 8) {
+    match counted_at(octets, place + 1, LEAST, IDENTITY_MOST) {
         Counted::Octets(run) => Identity::Present(run),
         Counted::CutShort => Identity::Absent,
         Counted::WrongLength => Identity::Absent,
@@ -128,7 +135,7 @@ fn read_immediate_identity(octets: &[u8]) -> Body
 {
     let key = octets[2] / 16 % 8;
     let classmark = classmark_at(octets, 4);
-    match counted_at(octets, 7, 1, 8) {
+    match counted_at(octets, 7, LEAST, IDENTITY_MOST) {
         Counted::Octets(identity) => {
             let end = identity.start + identity.count;
             if octets.len() - end < 4 {
@@ -199,7 +206,7 @@ fn half_at(octets: &[u8], at: usize, low: u8) -> Half
 fn read_status(octets: &[u8]) -> Body
     ensures { λ r. ⌜ r ≡ statusOf (now (octets .entry)) ⌝ }
 {
-    match counted_at(octets, 2, 1, 247) {
+    match counted_at(octets, 2, LEAST, CAUSE_MOST) {
         Counted::Octets(cause) => {
             let end = cause.start + cause.count;
             let state = half_at(octets, end, 0xa0);
@@ -223,7 +230,7 @@ fn read_status(octets: &[u8]) -> Body
 fn read_termination(octets: &[u8]) -> Body
     ensures { λ r. ⌜ r ≡ terminationOf (now (octets .entry)) ⌝ }
 {
-    match counted_at(octets, 2, 1, 247) {
+    match counted_at(octets, 2, LEAST, CAUSE_MOST) {
         Counted::Octets(cause) => {
             let end = cause.start + cause.count;
             whole(octets, end, Message::Termination { cause })
@@ -237,7 +244,7 @@ fn read_termination(octets: &[u8]) -> Body
 fn read_termination_reject(octets: &[u8]) -> Body
     ensures { λ r. ⌜ r ≡ terminationRejectOf (now (octets .entry)) ⌝ }
 {
-    match counted_at(octets, 2, 1, 247) {
+    match counted_at(octets, 2, LEAST, CAUSE_MOST) {
         Counted::Octets(cause) => {
             let end = cause.start + cause.count;
             whole(octets, end, Message::TerminationReject { cause })

@@ -1,5 +1,6 @@
 // The numbers of a message, kind by kind.
 ghost use mathlib.Core.Path.{_≡_};
+ghost use Rattle.codes.specs.MessageTypes.{IMMEDIATE-SETUP, GET-STATUS, SET-PARAMETER};
 ghost use Rattle.message_numbers.specs.Numbers.{
   threeOf,
   fourOf,
@@ -7,12 +8,13 @@ ghost use Rattle.message_numbers.specs.Numbers.{
   placeOf,
   identityPlace,
   flagNumber,
+  nowhere,
+  noThree,
+  noFour,
+  unsaid,
+  mandatory,
+  numbers,
   blank,
-  referring,
-  caused,
-  immediate,
-  asking,
-  setting,
   numbersOf,
 };
 use crate::Four;
@@ -112,7 +114,7 @@ pub(crate) fn blank(kind: u8, flag: u8, value: u8) -> Numbers
 
 // CONNECT, SETUP and TERMINATION REQUEST.
 fn referring(kind: u8, flag: u8, value: u8, reference: Reference, originator: u8) -> Numbers
-    ensures { λ r. ⌜ r ≡ referring kind flag value reference originator ⌝ }
+    ensures { λ r. ⌜ r ≡ numbers kind flag value 0 noThree (fourOf reference) originator unsaid unsaid nowhere nowhere ⌝ }
 {
     Numbers {
         reference: four_of(reference),
@@ -123,7 +125,7 @@ fn referring(kind: u8, flag: u8, value: u8, reference: Reference, originator: u8
 
 // STATUS, TERMINATION and TERMINATION REJECT.
 fn caused(kind: u8, flag: u8, value: u8, cause: Run, state: Half, attributes: Half) -> Numbers
-    ensures { λ r. ⌜ r ≡ caused kind flag value cause state attributes ⌝ }
+    ensures { λ r. ⌜ r ≡ numbers kind flag value 0 noThree noFour 0 (optionalOf state) (optionalOf attributes) nowhere (placeOf cause) ⌝ }
 {
     Numbers {
         cause: place_of(cause),
@@ -142,7 +144,7 @@ fn immediate(
     identity: Run,
     reference: Reference,
 ) -> Numbers
-    ensures { λ r. ⌜ r ≡ immediate flag value key classmark identity reference ⌝ }
+    ensures { λ r. ⌜ r ≡ numbers IMMEDIATE-SETUP flag value key (threeOf classmark) (fourOf reference) 0 unsaid unsaid (placeOf identity) nowhere ⌝ }
 {
     Numbers {
         key,
@@ -155,7 +157,7 @@ fn immediate(
 
 // GET STATUS.
 fn asking(flag: u8, value: u8, identity: Identity) -> Numbers
-    ensures { λ r. ⌜ r ≡ asking flag value identity ⌝ }
+    ensures { λ r. ⌜ r ≡ numbers GET-STATUS flag value 0 noThree noFour 0 unsaid unsaid (identityPlace identity) nowhere ⌝ }
 {
     Numbers {
         identity: identity_place(identity),
@@ -165,7 +167,7 @@ fn asking(flag: u8, value: u8, identity: Identity) -> Numbers
 
 // SET PARAMETER.
 fn setting(flag: u8, value: u8, attributes: u8) -> Numbers
-    ensures { λ r. ⌜ r ≡ setting flag value attributes ⌝ }
+    ensures { λ r. ⌜ r ≡ numbers SET-PARAMETER flag value 0 noThree noFour 0 unsaid (mandatory attributes) nowhere nowhere ⌝ }
 {
     Numbers {
         attributes: Optional {

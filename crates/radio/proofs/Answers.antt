@@ -13,7 +13,7 @@ use Rattle.fitness.specs.First.{fitOf}
 use Rattle.fitness.proofs.First.{fit-u0, fit-value}
 use Rattle.transitions.specs.declared.Send.{Send}
 use Rattle.transitions.specs.declared.Send.the-variants.{Nothing}
-use Rattle.call.specs.declared.Stepped.{Stepped as Taken}
+use Rattle.call.specs.declared.Settled.{Settled}
 use Rattle.call.proofs.Answers.{Right, settled-right}
 use Rattle.reply.specs.declared.Own.{Own}
 use Rattle.reply.specs.Reply.{replyOf}
@@ -44,7 +44,7 @@ unsent : (own : Own) (identity s : List ℕ) (x : Context) (sends : Send) → se
 unfolding replyOf
 unsent own identity s x sends e = rw e
 
-reacted-honest : (own : Own) (identity s : List ℕ) (x : Context) (t : Taken) → Right 63 x t → Honest x (reacted own identity s t)
+reacted-honest : (own : Own) (identity s : List ℕ) (x : Context) (t : Settled) → Right 63 x t → Honest x (reacted own identity s t)
 reacted-honest own identity s x t r = record {
   numbered = omega (arith, r .numbered);
   kept = r .kept;
@@ -78,5 +78,5 @@ pub step-short : (own : Own) (identity : List ℕ) (room : ℕ) (x : Context) (h
 step-short own identity room x h s =
     of-step own identity room x h s Short (omega arith)
     (λ o.
-    let t : Taken = reactedTo identity x h s in
+    let t : Settled = reactedTo identity x h s in
     reply-short (t .context) (leb-true _ _ (fit-value (t .context) (react-fit identity x h s (own .key) (o .fit) (o .range)))) own identity s (t .sends) (o .known) (o .least) (o .most))

@@ -3,14 +3,11 @@
 use Prim.Native.Nat.{ℕ, suc, _+_, _≤_, _<_}
 use mathlib.Core.Path.{_≡_, refl, sym, _∙_}
 use mathlib.Core.List.{List, [], _∷_}
-use mathlib.Core.Bool.{Bool, cond, _||_}
+use mathlib.Core.Bool.{cond, _||_}
 use native.Mathlib.Omega.{arith}
 use lib.Dec.{eqb}
 use lib.ListN.{length}
-use borrow.Author.Tests.{eqb-true, eqb-false}
-use Rattle.octets.specs.Rows.{rows}
-use Rattle.octets.proofs.Choice.{at-cond}
-use Rattle.octets.proofs.Rows.{Absent, other}
+use Rattle.octets.proofs.Rows.{Absent, other, at-rows}
 use Rattle.message.specs.declared.Reference.{Reference}
 use Rattle.message.specs.declared.Message.{Message}
 use Rattle.message.specs.declared.Message.the-variants.{
@@ -26,22 +23,12 @@ use Rattle.message.specs.declared.Message.the-variants.{
 }
 use Rattle.call.specs.declared.Event.{Event}
 use Rattle.call.specs.declared.Event.the-variants as Event
-use Rattle.call.specs.Events.{noReference, seenMessage, seenOf}
+use Rattle.call.specs.Events.{bare, carrying, seenMessage, seenOf}
 use Rattle.radio.specs.declared.Told.{Told}
 use Rattle.radio.specs.declared.Told.the-variants.{Is, NoEvent}
 use Rattle.radio.specs.Step.{events, eventOf}
 
 -- ---- rows of a table
-
--- What holds of each row that has the number, and otherwise where none has it, holds of what the table says.
-abbrev pub EachAt : {A : Type 0} → (A → Type 0) → ℕ → List (ℕ × A) → Type 0
-EachAt P n [] = Unit {0}
-EachAt P n (r ∷ rs) = (n ≡ r .0 → P (r .1)) × EachAt P n rs
-
-pub at-rows : {A : Type 0} (P : A → Type 0) (n : ℕ) (d : A) (rs : List (ℕ × A)) → EachAt P n rs → (Absent n rs → P d) → P (rows n d rs)
-at-rows P n d [] ps p = p tt
-at-rows P n d (r ∷ rs) ps p =
-    at-cond P (eqb n (r .0)) (r .1) (rows n d rs) (λ e. ps .0 (eqb-true n (r .0) e)) (λ e. at-rows P n d rs (ps .1) (λ q. p (eqb-false n (r .0) e, q)))
 
 -- Rows that are numbered one after the other from `k` on have these numbers and no others.
 abbrev Numbered : {A : Type 0} → ℕ → List (ℕ × A) → Type 0
@@ -69,21 +56,17 @@ numbered v r = (refl, (refl, (refl, (refl, (refl, (refl, (refl, (refl, (refl, (r
 
 -- ---- from the number to the event
 
--- The event of a number: seen, it has this number, and it has the value and the reference where it carries them. No event: the number is not 1 to 17.
-abbrev carries : ℕ → Bool
-carries n = eqb n 1 || (eqb n 2 || eqb n 10)
-
+-- The event of a number: seen, it is that number with the value and the reference where it carries them. No event: the number is not 1 to 17.
 abbrev pub IsOf : ℕ → ℕ → Reference → Told → Type 0
-IsOf n v r (Is event) =
-    (seenOf event .number ≡ n) × (seenOf event .value ≡ cond (carries n) v 0) × (seenOf event .reference ≡ cond (carries n) r noReference)
+IsOf n v r (Is event) = seenOf event ≡ cond (eqb n 1 || (eqb n 2 || eqb n 10)) (carrying n v r) (bare n)
 IsOf n v r NoEvent = 1 ≤ n → n ≤ 17 → ⊥
 
 pub event-of-number : (n v : ℕ) (r : Reference) → IsOf n v r (eventOf n v r)
 unfolding eventOf seenOf
 event-of-number n v r =
     at-rows (IsOf n v r) n NoEvent (events v r) (
-      (λ e. rw e (refl, refl, refl)),
-      ((λ e. rw e (refl, refl, refl)), ((λ e. rw e (refl, refl, refl)), ((λ e. rw e (refl, refl, refl)), ((λ e. rw e (refl, refl, refl)), ((λ e. rw e (refl, refl, refl)), ((λ e. rw e (refl, refl, refl)), ((λ e. rw e (refl, refl, refl)), ((λ e. rw e (refl, refl, refl)), ((λ e. rw e (refl, refl, refl)), ((λ e. rw e (refl, refl, refl)), ((λ e. rw e (refl, refl, refl)), ((λ e. rw e (refl, refl, refl)), ((λ e. rw e (refl, refl, refl)), ((λ e. rw e (refl, refl, refl)), ((λ e. rw e (refl, refl, refl)), ((λ e. rw e (refl, refl, refl)), tt)))))))))))))))),
+      (λ e. rw e),
+      ((λ e. rw e), ((λ e. rw e), ((λ e. rw e), ((λ e. rw e), ((λ e. rw e), ((λ e. rw e), ((λ e. rw e), ((λ e. rw e), ((λ e. rw e), ((λ e. rw e), ((λ e. rw e), ((λ e. rw e), ((λ e. rw e), ((λ e. rw e), ((λ e. rw e), ((λ e. rw e), tt)))))))))))))))),
     )
     (λ a l m. let b : 18 ≤ n = beyond 1 n (events v r) (numbered v r) l a in omega arith)
 

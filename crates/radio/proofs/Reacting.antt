@@ -1,8 +1,8 @@
 -- What an event in range comes to: that a fit context stays fit, and the two ways of the step.
-use Prim.Native.Nat.{ℕ}
+use Prim.Native.Nat.{ℕ, _≤_}
 use mathlib.Core.Path.{_≡_, refl, sym, _∙_}
 use mathlib.Core.List.{List}
-use mathlib.Core.Bool.{true, false, cond, _||_}
+use mathlib.Core.Bool.{Bool, true, false, cond, _||_}
 use lib.Dec.{eqb, leb}
 use lib.ListN.{length}
 use lib.Seq.{sets}
@@ -15,8 +15,9 @@ use Rattle.fitness.proofs.First.{fit-value}
 use Rattle.call.specs.declared.Due.{Due}
 use Rattle.call.specs.declared.Due.the-variants.{Steps, Refused}
 use Rattle.call.specs.declared.Event.{Event}
-use Rattle.call.specs.declared.Stepped.{Stepped as Taken}
-use Rattle.call.specs.Events.{seenOf}
+use Rattle.call.specs.declared.Settled.{Settled}
+use Rattle.call.specs.Due.{settled}
+use Rattle.call.specs.Events.{bare, carrying}
 use Rattle.call.proofs.Kept.{DueFit, received-value, settled-fit}
 use Rattle.reply.specs.declared.Own.{Own}
 use Rattle.reply.specs.Reply.{replyOf, putOf}
@@ -24,10 +25,12 @@ use Rattle.reply.proofs.Fits.{put-is-reply}
 use Rattle.received.specs.Due.{dueOf}
 use Rattle.received.proofs.Rules.{every-due}
 use Rattle.radio.specs.declared.Happened.{Happened}
+use Rattle.radio.specs.declared.Outcome.{Outcome}
 use Rattle.radio.specs.declared.Stepped.{Stepped}
+use Rattle.radio.specs.declared.Told.{Told}
 use Rattle.radio.specs.declared.Told.the-variants.{Is, NoEvent}
-use Rattle.radio.specs.Step.{events, eventOf, toldDue, dueTo, reactedTo, outOfRange, Reaction, refused, reacted, stepOf, takenOf, refusalOf, shown}
-use Rattle.radio.proofs.Numbers.{at-rows}
+use Rattle.radio.specs.Step.{eventOf, toldDue, dueTo, reactedTo, outOfRange, Reaction, refused, reacted, stepOf, takenOf, refusalOf, shown}
+use Rattle.radio.proofs.Numbers.{IsOf, event-of-number}
 use Rattle.radio.proofs.Range.{InRange, in-range, value-most}
 
 -- The three ways of `due_to`.
@@ -47,13 +50,16 @@ module _ (identity : List ℕ) (x : Context) (h : Happened) (s : List ℕ) (r : 
 -- What is due where an event in range happens carries a value in range: a message none,
 -- and any other event what it was given.
 told-fit : (n v : ℕ) (r : Reference) → ((eqb n 1 || (eqb n 2 || eqb n 10)) ≡ true → leb v 6 ≡ true) → DueFit (toldDue (eventOf n v r))
-unfolding eventOf toldDue seenOf
-told-fit n v r h =
-    at-rows (λ t. DueFit (toldDue t)) n NoEvent (events v r) (
-      (λ e. h (rw e)),
-      ((λ e. h (rw e)), ((λ e. refl), ((λ e. refl), ((λ e. refl), ((λ e. refl), ((λ e. refl), ((λ e. refl), ((λ e. refl), ((λ e. h (rw e)), ((λ e. refl), ((λ e. refl), ((λ e. refl), ((λ e. refl), ((λ e. refl), ((λ e. refl), ((λ e. refl), tt)))))))))))))))),
-    )
-    (λ a. tt)
+unfolding toldDue
+told-fit n v r h = go (eventOf n v r) (event-of-number n v r)
+  where
+    given-or-none : (c : Bool) → (c ≡ true → leb v 6 ≡ true) → leb (cond c (carrying n v r) (bare n) .value) 6 ≡ true
+    given-or-none true k = k refl
+    given-or-none false k = refl
+
+    go : (t : Told) → IsOf n v r t → DueFit (toldDue t)
+    go (Is event) p = rw p (given-or-none (eqb n 1 || (eqb n 2 || eqb n 10)) h)
+    go NoEvent p = tt
 
 -- A step from a fit context ends in a fit one.
 pub react-fit : (identity : List ℕ) (x : Context) (h : Happened) (s : List ℕ) (key : ℕ) → fitOf x ≡ true → outOfRange key (length identity) h ≡ false
@@ -93,7 +99,7 @@ module _ (own : Own) (identity d : List ℕ) (x : Context) (h : Happened) (s : L
   Taking r after =
       (r ≡ shown (takenOf own identity (length d) x h s)) × (after ≡ sets d 0 (takenOf own identity (length d) x h s .reply))
 
-  pub takes : (t : Taken) → t ≡ reactedTo identity x h s → (n : ℕ) (after : List ℕ)
+  pub takes : (t : Settled) → t ≡ reactedTo identity x h s → (n : ℕ) (after : List ℕ)
       → (n ≡ length (putOf (length d) own identity s (t .context) (t .sends))) × (after ≡ sets d 0 (putOf (length d) own identity s (t .context) (t .sends)))
       → Taking (record { context = t .context; outcome = record { answer = t .answer; actions = t .actions; count = n } }) after
   unfolding takenOf
@@ -113,7 +119,7 @@ module _ (own : Own) (identity d : List ℕ) (x : Context) (h : Happened) (s : L
   unfolding takenOf
   taken-is-step z =
       let o : InRange x (own .key) (length identity) h (length s) (length d) = in-range x _ _ h _ _ z in
-      let t : Taken = reactedTo identity x h s in
+      let t : Settled = reactedTo identity x h s in
       let f : fitOf (t .context) ≡ true = react-fit identity x h s (own .key) (o .fit) (o .range) in
       let l : putOf (length d) own identity s (t .context) (t .sends) ≡ replyOf own identity s (t .context) (t .sends)
       = put-is-reply (t .context) (leb-true _ _ (fit-value (t .context) f)) (length d) own identity s (t .sends) (o .big) (o .known) (o .least) (o .most) in

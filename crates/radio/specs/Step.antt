@@ -29,7 +29,7 @@ use Rattle.call.specs.declared.Event.the-variants.{
   ConnReqExpired,
   NoChannelExpired,
 }
-use Rattle.call.specs.declared.Stepped.{Stepped as Taken}
+use Rattle.call.specs.declared.Settled.{Settled}
 use Rattle.call.specs.Due.{settled}
 use Rattle.reply.specs.declared.Own.{Own}
 use Rattle.reply.specs.Reply.{replyOf, putOf}
@@ -75,7 +75,7 @@ unfoldable pub dueTo : List ℕ → Context → Happened → List ℕ → Due
 dueTo identity x h s = cond (eqb (h .number) 18) (dueOf identity x (h .mode) s) (toldDue (eventOf (h .number) (h .value) (h .reference)))
 
 -- What is due, done.
-unfoldable pub reactedTo : List ℕ → Context → Happened → List ℕ → Taken
+unfoldable pub reactedTo : List ℕ → Context → Happened → List ℕ → Settled
 reactedTo identity x h s = settled x (dueTo identity x h s)
 
 -- Answer 4: event number, mode, a transaction value over 6, ciphering key number over 7, own identity of 0 or over 8 octets;
@@ -101,7 +101,7 @@ abbrev pub refused : ℕ → Context → Reaction
 refused answer x = record { answer = answer; context = x; actions = 0; reply = [] }
 
 -- A step that is not refused, with what it sends as octets.
-abbrev pub reacted : Own → List ℕ → List ℕ → Taken → Reaction
+abbrev pub reacted : Own → List ℕ → List ℕ → Settled → Reaction
 reacted own identity s taken = record {
   answer = taken .answer;
   context = taken .context;
@@ -133,7 +133,7 @@ stepOf own identity room x h s =
 -- The step without its tests, for any arguments: the reply is what the lent buffer takes. Where no test refuses it is the step.
 unfoldable pub takenOf : Own → List ℕ → ℕ → Context → Happened → List ℕ → Reaction
 takenOf own identity room x h s =
-    let taken : Taken = reactedTo identity x h s in
+    let taken : Settled = reactedTo identity x h s in
     record {
       answer = taken .answer;
       context = taken .context;

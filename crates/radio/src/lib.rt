@@ -78,7 +78,7 @@ fn due_to(context: Context, identity: &[u8], happened: Happened, octets: &[u8]) 
 }
 
 // The step of an event that is in range.
-fn react(context: Context, identity: &[u8], happened: Happened, octets: &[u8]) -> call::Stepped
+fn react(context: Context, identity: &[u8], happened: Happened, octets: &[u8]) -> call::Settled
     ensures { λ r. ⌜ r ≡ reactedTo (now (identity .entry)) context happened (now (octets .entry)) ⌝ }
 {
     let due = due_to(context, identity, happened, octets);

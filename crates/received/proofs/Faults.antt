@@ -1,15 +1,14 @@
 -- What rule 3 reports: after rules 1 and 2 a message that can't be read has fault 4, its mandatory part or an element that must be known.
 use Prim.Native.Nat.{ℕ, _%_, _≤_}
 use mathlib.Core.Path.{_≡_, refl, sym}
-use mathlib.Core.List.{List, [], _∷_}
+use mathlib.Core.List.{List}
 use mathlib.Core.Bool.{Bool, true, false}
 use native.Mathlib.Omega.{arith}
-use lib.Dec.{eqb, leb}
+use lib.Dec.{leb}
 use lib.ListN.{length, getD}
-use borrow.Author.Tests.{le-ltb, eqb-false}
-use Rattle.octets.specs.Rows.{rows}
+use borrow.Author.Tests.{le-ltb}
 use Rattle.octets.proofs.Choice.{at-cond}
-use Rattle.octets.proofs.Rows.{Absent, other}
+use Rattle.octets.proofs.Rows.{Absent, Each, other, at-rows}
 use Rattle.codes.specs.declared.state.State.the-variants.{U0}
 use Rattle.element.specs.declared.Run.{Run}
 use Rattle.element.specs.declared.Found.{Found}
@@ -78,41 +77,22 @@ counted at go (Octets run) w = w run
 counted at go CountedShort w = refl
 counted at go CountedWrong w = refl
 
-abbrev All : List (ℕ × Body) → Type 0
-All [] = Unit {0}
-All (r ∷ rs) = FourBody (r .1) × All rs
-
--- A number that has a row, or else has none.
-among : (n : ℕ) (d : Body) (rs : List (ℕ × Body)) → All rs → (Absent n rs → FourBody d) → FourBody (rows n d rs)
-among n d [] ps p = p tt
-among n d (r ∷ rs) ps p =
-    at-cond FourBody (eqb n (r .0)) (r .1) (rows n d rs) (λ e. ps .0) (λ e. among n d rs (ps .1) (λ q. p (eqb-false n (r .0) e, q)))
-
 immediate : (s : List ℕ) → FourBody (immediateSetupOf s)
 unfolding immediateSetupOf immediateIdentityOf
 immediate s = counted 3 _ (countedAt s 3 3 3) (λ c. counted 7 _ (countedAt s 7 1 8) (λ run. whole s _ _))
 
-bodies : (s : List ℕ) → All (kinds s)
+bodies : (s : List ℕ) (kind : ℕ) → Each FourBody kind (kinds s)
 unfolding connectOf getStatusOf setParameterOf setupOf statusOf terminationOf terminationRejectOf terminationRequestOf
-bodies s = (
-  immediate s,
-  (
-    whole s _ _,
-    (
-      whole s _ _,
+bodies s kind =
+    let terminated = counted 2 (terminationBehind s) (countedAt s 2 1 247) (λ run. whole s _ _) in
+    let rejected = counted 2 (terminationRejectBehind s) (countedAt s 2 1 247) (λ run. whole s _ _) in
+    let told = counted 2 (statusBehind s) (countedAt s 2 1 247) (λ run. whole s _ _) in (
+      λ e. immediate s,
       (
-        counted 2 (terminationBehind s) (countedAt s 2 1 247) (λ run. whole s _ _),
-        (
-          whole s _ _,
-          (
-            counted 2 (terminationRejectBehind s) (countedAt s 2 1 247) (λ run. whole s _ _),
-            (counted 2 (statusBehind s) (countedAt s 2 1 247) (λ run. whole s _ _), (whole s _ _, (whole s _ _, tt))),
-          ),
-        ),
+        λ e. whole s _ _,
+        (λ e. whole s _ _, (λ e. terminated, (λ e. whole s _ _, (λ e. rejected, (λ e. told, (λ e. whole s _ _, (λ e. whole s _ _, tt))))))),
       ),
-    ),
-  ),
-)
+    )
 
 -- A type that is not of table 9.1 is reported with 97 in every state but U0.
 unknown : (s : List ℕ) (x : Context) (code : ℕ) → same (x .state) U0 ≡ false → Absent code (kinds s) → decidedOf x 18 code ≡ Report 97
@@ -148,4 +128,4 @@ module _ (x : Context) (s : List ℕ) (ours : Ours x s) (none : typeCause x (get
   unfolding readMessage bodyOf
   fault-four h =
       rw (le-ltb 251 (length s) h, ours .two, ours .broadcast, low)
-      (read-as _ _ (bodyOf s (getD s 1 0 % 64)) (among (getD s 1 0 % 64) _ (kinds s) (bodies s) (λ a. elim (typed a) [ ])))
+      (read-as _ _ (bodyOf s (getD s 1 0 % 64)) (at-rows FourBody (getD s 1 0 % 64) _ (kinds s) (bodies s (getD s 1 0 % 64)) (λ a. elim (typed a) [ ])))

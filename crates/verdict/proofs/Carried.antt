@@ -6,6 +6,7 @@ use mathlib.Core.List.{List, []}
 use lib.Dec.{eqb}
 use borrow.Author.Tests.{eqb-true}
 use Rattle.octets.proofs.Choice.{never}
+use Rattle.octets.proofs.Rows.{at-rows}
 use Rattle.message.specs.declared.Reference.{Reference}
 use Rattle.context.specs.declared.Context.{Context}
 use Rattle.transitions.specs.declared.Send.{Send}
@@ -17,7 +18,7 @@ use Rattle.transitions.specs.Table.{stepTable}
 use Rattle.transitions.proofs.Sound.{isPlain, document-01}
 use Rattle.transitions.proofs.Decided.{Plain, event-plain as by-rows}
 use Rattle.call.specs.declared.Seen.{Seen}
-use Rattle.call.specs.declared.Stepped.{Stepped as Taken}
+use Rattle.call.specs.declared.Settled.{Settled}
 use Rattle.call.specs.Due.{settledBy, settled}
 use Rattle.call.specs.Events.{seenOf}
 use Rattle.call.specs.Step.{ignored, noStep, carriedOut, stepBy}
@@ -26,7 +27,6 @@ use Rattle.reply.specs.Reply.{replyOf}
 use Rattle.radio.specs.declared.Told.{Told}
 use Rattle.radio.specs.declared.Told.the-variants.{Is, NoEvent}
 use Rattle.radio.specs.Step.{events, eventOf, toldDue, dueTo, reactedTo, outOfRange, argumentRefusal, refusalOf, reacted, stepOf}
-use Rattle.radio.proofs.Numbers.{at-rows}
 use Rattle.log.specs.Layout.{carriesCall, noReference}
 use Rattle.verdict.specs.Table.{Event, stepped}
 use Rattle.verdict.specs.Entries.{callReference, carriedBy}
@@ -58,7 +58,7 @@ plain-reply own identity s u x TerminationRequest e = refl
 plain-reply own identity s u x (Status cause) e = never e
 plain-reply own identity s u x (ErrorStatus cause) e = never e
 
-abbrev PlainTaken : Taken → Type 0
+abbrev PlainTaken : Settled → Type 0
 PlainTaken t = isPlain (t .sends) ≡ true
 
 carried-plain : (x : Context) (d : Decision) (e : Seen) → Plain d → PlainTaken (carriedOut firstFitness x d e)
