@@ -8,18 +8,20 @@ from pathlib import Path
 
 ROOT = Path(__file__).resolve().parent.parent
 PROGRAMS = """saying filing fields message_command step_command record_command judge_command message_words settings_words log_words judge_words
-script record_words capture_words drawing timeline help_words file_words heidezirkel""".split()
+probe_words script record_words capture_words drawing timeline help_words file_words heidezirkel""".split()
 
 KEYWORDS = {"abbrev", "unfoldable", "pub", "data", "record", "module", "where", "let", "in", "use", "as", "unfolding", "λ", "→", ":", "=", "Type", "_"}
 WORD = re.compile(r"«[^»]*»|\"[^\"]*\"|[(){}⟨⟩;,⌜⌝]|λ|[^\s(){}⟨⟩;,⌜⌝«»\"λ]+")
 
 
 def crates():
-    """The crates in the order of crates.txt, each with the floor that the comment above it names."""
+    """The crates in the order of crates.txt, each with its floor, which a line `# == ..` above it names."""
     floor, found = "", []
     for line in (ROOT / "crates.txt").read_text().splitlines():
-        if line.startswith("#"):
-            floor = line[1:].strip()
+        if line.startswith("# == "):
+            floor = line[5:].strip()
+        elif line.startswith("#"):
+            continue
         elif ":" in line:
             found.append((line.split(":")[0].strip(), floor))
     return found
