@@ -7,7 +7,7 @@ use borrow.Author.Tests.{leb-true}
 use Rattle.octets.proofs.Choice.{at-cond}
 use Rattle.codes.specs.Attributes.{parametersOf}
 use Rattle.context.specs.declared.Context.{Context}
-use Rattle.context.specs.Fit.{consistent}
+use Rattle.fitness.specs.First.{consistent}
 use Rattle.transitions.specs.declared.Send.{Send}
 use Rattle.transitions.specs.declared.Send.the-variants.{Nothing}
 use Rattle.transitions.specs.declared.Decision.{Decision}

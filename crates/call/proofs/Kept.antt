@@ -10,16 +10,15 @@ use Rattle.codes.specs.declared.state.State.the-variants.{U0, U0p, U1, U2, U3, 
 use Rattle.codes.specs.declared.attributes.Parameters.{Parameters}
 use Rattle.codes.specs.Attributes.{parametersOf}
 use Rattle.message.specs.declared.Reference.{Reference}
-use Rattle.context.specs.declared.Timers.{Timers}
 use Rattle.context.specs.declared.Context.{Context}
 use Rattle.context.specs.States.{same}
-use Rattle.context.specs.Context.{startRow, cleared}
-use Rattle.context.specs.Fit.{consistent, timersFit, isCleared, fitOf}
+use Rattle.context.specs.Context.{entering, cleared}
+use Rattle.fitness.specs.Fitness.{consistentBy, timersFitBy, isCleared}
+use Rattle.fitness.specs.First.{firstFitness, consistent, timersFit, fitOf}
 use Rattle.context.proofs.States.{same-state}
 use Rattle.context.proofs.Whole.{and-left, and-right, if-so, inStates, at-state, ofTimers, at-timers}
-use Rattle.context.proofs.Fit.{start-consistent, fit-consistent, fit-value, fit-cleared, fit-timers, fit-made, cleared-fit}
-use Rattle.transitions.specs.declared.Timer.{Timer}
-use Rattle.transitions.specs.declared.Timer.the-variants.{NoTimer, MmEst, Term, ConnReq, NoChannel}
+use Rattle.fitness.proofs.First.{entering-consistent, fit-consistent, fit-value, fit-timers, fit-made, cleared-fit}
+use Rattle.timer.specs.declared.Timer.{Timer}
 use Rattle.transitions.specs.declared.Send.{Send}
 use Rattle.transitions.specs.declared.Decision.{Decision}
 use Rattle.transitions.specs.declared.Decision.the-variants.{Take, NoStep, Ignore, Report, TellStatus, SetParameters}
@@ -31,8 +30,8 @@ use Rattle.call.specs.declared.Stores.the-variants.{Nothing, Call, CallR
 use Rattle.call.specs.declared.Seen.{Seen}
 use Rattle.call.specs.declared.Stepped.{Stepped}
 use Rattle.call.specs.Events.{seenOf}
+use Rattle.timer.specs.Timers.{isOn, withTimer}
 use Rattle.call.specs.Step.{
-  withTimer,
   timersAfter,
   parametersAfter,
   valueAfter,
@@ -52,7 +51,7 @@ keeps s n next actions sends stops sets = same next U0 || ofTimers (λ t. not (t
 
 -- Every row of the table does.
 rows-keep : (x : Context) (s : State) → inTable (keeps s) s x stepTable ≡ true
-unfolding stepTable timersFit withTimer
+unfolding stepTable timersFitBy withTimer firstFitness
 rows-keep x = at-state (λ s. inTable (keeps s) s x stepTable) refl
 
 -- What the table decides in a state: a row that keeps timers fit; SET PARAMETER not in U0.
@@ -85,8 +84,8 @@ value-fits (CallReference reference) value s h = h
 parameters-fit : (x : Context) (next : State) → consistent (x .state) (x .parameters) ≡ true → consistent next (parametersAfter x next) ≡ true
 unfolding parametersAfter
 parameters-fit x next h =
-    at-cond (λ p. consistent next p ≡ true) (same (x .state) next) (x .parameters) (startRow next)
-    (λ e. subst (λ s. consistent s (x .parameters) ≡ true) (same-state (x .state) next e) h) (λ e. start-consistent next)
+    at-cond (λ p. consistent next p ≡ true) (same (x .state) next) (x .parameters) (entering next (x .parameters))
+    (λ e. subst (λ s. consistent s (x .parameters) ≡ true) (same-state (x .state) next e) h) (λ e. entering-consistent next (x .parameters))
 
 not-u0 : (t : Bool) (c : Bool) → t ≡ false → (not t || c) ≡ true
 not-u0 t c e = rw e
@@ -127,7 +126,7 @@ step-fit x event fit fits =
 
 -- Where some parameters are inconsistent with a state, COMM true is.
 silent : (s : State) (p q : Parameters) → consistent s p ≡ false → consistent s q ≡ true → q .comm ≡ false
-unfolding consistent
+unfolding consistentBy firstFitness
 silent U0 p q e f = not-true _ f
 silent U0p p q e f = never (sym e)
 silent U1 p q e f = never (sym e)
@@ -144,24 +143,16 @@ inconsistent-ignored x attributes fit e =
     let c : x .parameters .comm ≡ false = silent (x .state) (parametersOf attributes) (x .parameters) e (fit-consistent x fit) in
     rw (e, c)
 
--- Whether a timer is among those that run.
-abbrev pub runsIn : Timer → Timers → Bool
-runsIn NoTimer t = false
-runsIn MmEst t = t .mmest
-runsIn Term t = t .term
-runsIn ConnReq t = t .connreq
-runsIn NoChannel t = t .nochannel
-
 -- A row sets no timer that runs, except that of event 12, which leaves it to run.
 abbrev fresh : State → Test
-fresh s n next actions sends stops sets = eqb n 12 || ofTimers (λ t. not (timersFit s t) || not (runsIn sets t))
+fresh s n next actions sends stops sets = eqb n 12 || ofTimers (λ t. not (timersFit s t) || not (isOn sets t))
 
 rows-fresh : (x : Context) (s : State) → inTable (fresh s) s x stepTable ≡ true
-unfolding stepTable timersFit
+unfolding stepTable timersFitBy firstFitness
 rows-fresh x = at-state (λ s. inTable (fresh s) s x stepTable) refl
 
 abbrev pub SetsFresh : Context → ℕ → Decision → Type 0
-SetsFresh x n (Take next actions sends stops sets) = eqb n 12 ≡ false → runsIn sets (x .timers) ≡ false
+SetsFresh x n (Take next actions sends stops sets) = eqb n 12 ≡ false → isOn sets (x .timers) ≡ false
 SetsFresh x n NoStep = Unit {0}
 SetsFresh x n Ignore = Unit {0}
 SetsFresh x n (Report cause) = Unit {0}
@@ -176,6 +167,6 @@ sets-fresh x fit n code =
     (λ k next actions sends stops sets e f.
     not-true _
     (if-so _ _
-    (at-timers (λ t. not (timersFit (x .state) t) || not (runsIn sets t)) (rw f at e) (x .timers))
+    (at-timers (λ t. not (timersFit (x .state) t) || not (isOn sets t)) (rw f at e) (x .timers))
     (fit-timers x fit)))
     (λ k. tt) (rows-fresh x (x .state)) tt (λ cause. tt) tt (λ e. tt) n code

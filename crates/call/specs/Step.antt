@@ -6,13 +6,13 @@ use Rattle.codes.specs.declared.state.State.the-variants.{U0}
 use Rattle.codes.specs.declared.attributes.Parameters.{Parameters}
 use Rattle.codes.specs.Attributes.{parametersOf}
 use Rattle.message.specs.declared.Reference.{Reference}
-use Rattle.context.specs.declared.Timers.{Timers}
+use Rattle.timer.specs.declared.Timers.{Timers}
 use Rattle.context.specs.declared.Context.{Context}
 use Rattle.context.specs.States.{same}
-use Rattle.context.specs.Context.{startRow, cleared}
-use Rattle.context.specs.Fit.{consistent}
-use Rattle.transitions.specs.declared.Timer.{Timer}
-use Rattle.transitions.specs.declared.Timer.the-variants.{NoTimer, MmEst, Term, ConnReq, NoChannel}
+use Rattle.context.specs.Context.{entering, cleared}
+use Rattle.fitness.specs.First.{consistent}
+use Rattle.timer.specs.declared.Timer.{Timer}
+use Rattle.timer.specs.Timers.{withTimer}
 use Rattle.transitions.specs.declared.Send.{Send}
 use Rattle.transitions.specs.declared.Send.the-variants as Send
 use Rattle.transitions.specs.declared.Decision.{Decision}
@@ -25,21 +25,13 @@ use Rattle.call.specs.declared.Seen.{Seen}
 use Rattle.call.specs.declared.Stepped.{Stepped}
 use Rattle.call.specs.Events.{seenOf}
 
--- The timers with one of them running or not.
-unfoldable pub withTimer : Timer → Bool → Timers → Timers
-withTimer NoTimer runs t = t
-withTimer MmEst runs t = record { mmest = runs; term = t .term; connreq = t .connreq; nochannel = t .nochannel }
-withTimer Term runs t = record { mmest = t .mmest; term = runs; connreq = t .connreq; nochannel = t .nochannel }
-withTimer ConnReq runs t = record { mmest = t .mmest; term = t .term; connreq = runs; nochannel = t .nochannel }
-withTimer NoChannel runs t = record { mmest = t .mmest; term = t .term; connreq = t .connreq; nochannel = runs }
-
 -- A row stops a timer and sets a timer.
 abbrev pub timersAfter : Timer → Timer → Timers → Timers
 timersAfter stops sets t = withTimer sets true (withTimer stops false t)
 
--- Entering a state sets its row. A step that stays in its state keeps the parameters.
+-- A step that stays in its state keeps the parameters; another enters its next state.
 unfoldable pub parametersAfter : Context → State → Parameters
-parametersAfter x next = cond (same (x .state) next) (x .parameters) (startRow next)
+parametersAfter x next = cond (same (x .state) next) (x .parameters) (entering next (x .parameters))
 
 -- Events 1, 2 and 10 store a transaction value and a reference when taken; CONNECT stores its reference.
 unfoldable pub valueAfter : Stores → ℕ → ℕ

@@ -2,16 +2,15 @@
 ghost use mathlib.Core.Path.{_≡_};
 ghost use Rattle.call.specs.Due.{settled};
 ghost use Rattle.call.specs.Events.{bare, carrying, heard, seenMessage, seenOf};
-ghost use Rattle.call.specs.Step.{withTimer, parametersAfter, valueAfter, referenceAfter, afterwards, noStep, ignored, reportedWith, statusTold, parametersSet, carriedOut, stepValue};
+ghost use Rattle.call.specs.Step.{parametersAfter, valueAfter, referenceAfter, afterwards, noStep, ignored, reportedWith, statusTold, parametersSet, carriedOut, stepValue};
 use codes::attributes::Parameters;
 use codes::state::State;
 use context::Context;
-use context::Timers;
 use message::Message;
 use message::Reference;
+use timer::Timer;
 use transitions::Decision;
 use transitions::Send;
-use transitions::Timer;
 
 // The events of document 01, in the order of their numbers 1 to 18.
 pub enum Event {
@@ -150,39 +149,6 @@ fn seen_event(event: Event) -> Seen
     }
 }
 
-// The timers with one of them running or not.
-fn with_timer(timer: Timer, runs: bool, timers: Timers) -> Timers
-    ensures { λ r. ⌜ r ≡ withTimer timer runs timers ⌝ }
-{
-    match timer {
-        Timer::NoTimer => timers,
-        Timer::MmEst => Timers {
-            mmest: runs,
-            term: timers.term,
-            connreq: timers.connreq,
-            nochannel: timers.nochannel,
-        },
-        Timer::Term => Timers {
-            mmest: timers.mmest,
-            term: runs,
-            connreq: timers.connreq,
-            nochannel: timers.nochannel,
-        },
-        Timer::ConnReq => Timers {
-            mmest: timers.mmest,
-            term: timers.term,
-            connreq: runs,
-            nochannel: timers.nochannel,
-        },
-        Timer::NoChannel => Timers {
-            mmest: timers.mmest,
-            term: timers.term,
-            connreq: timers.connreq,
-            nochannel: runs,
-        },
-    }
-}
-
 // Entering a state sets its row; a step that stays in its state keeps the parameters.
 fn parameters_after(context: Context, next: State) -> Parameters
     ensures { λ r. ⌜ r ≡ parametersAfter context next ⌝ }
@@ -193,7 +159,7 @@ fn parameters_after(context: Context, next: State) -> Parameters
     if from == to {
         return context.parameters;
     }
-    context::start_row(next)
+    context::entering(next, context.parameters)
 }
 
 fn value_after(stores: Stores, value: u8) -> u8
@@ -227,8 +193,8 @@ fn afterwards(context: Context, next: State, stops: Timer, sets: Timer, stores: 
     let before = context.timers;
     let kept = context.reference;
     let parameters = parameters_after(context, next);
-    let stopped = with_timer(stops, false, before);
-    let timers = with_timer(sets, true, stopped);
+    let stopped = timer::with_timer(stops, false, before);
+    let timers = timer::with_timer(sets, true, stopped);
     let value = value_after(stores, context.value);
     let reference = reference_after(stores, kept);
     Context {
@@ -304,7 +270,7 @@ fn set_parameters(context: Context, attributes: u8) -> Stepped
     let timers = context.timers;
     let reference = context.reference;
     let parameters = codes::attributes::parameters_of(attributes);
-    if context::is_consistent(state, parameters) {
+    if fitness::is_consistent(state, parameters) {
         let set = Context {
             state,
             parameters,

@@ -1,6 +1,3 @@
 pub mod Coincide
-pub mod Files
 pub mod Laws
 pub mod Records
-pub mod Steps
-pub mod Verdicts

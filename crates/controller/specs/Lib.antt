@@ -1,5 +1,2 @@
-pub mod Configuring
-pub mod Judging
 pub mod Numbering
 pub mod Recording
-pub mod Stepping

@@ -10,7 +10,8 @@ use Rattle.octets.proofs.Choice.{at-cond}
 use Rattle.codes.specs.Attributes.{weighs}
 use Rattle.context.specs.declared.Context.{Context}
 use Rattle.context.specs.Context.{cleared}
-use Rattle.context.specs.Running.{runs, expiryOf}
+use Rattle.timer.specs.Timers.{expiryOf}
+use Rattle.context.specs.Running.{runs}
 use Rattle.log_number.specs.Number.{numberAt}
 use Rattle.log_number.specs.declared.Number.the-variants.{Value, Unreadable as NoNumber}
 use Rattle.judge.specs.declared.Begun.the-variants.{At, NoVersion}

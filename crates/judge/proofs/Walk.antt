@@ -8,9 +8,10 @@ use lib.Dec.{eqb}
 use lib.ListN.{length}
 use borrow.Author.Tests.{le-ltb, lt-ltb, eqb-true}
 use Rattle.context.specs.Context.{cleared}
-use Rattle.context.specs.Fit.{fitOf}
-use Rattle.context.specs.Running.{runs, joiningLeast, joiningGreatest}
-use Rattle.context.proofs.Fit.{cleared-fit}
+use Rattle.fitness.specs.First.{fitOf}
+use Rattle.timer.specs.Timers.{runningAmong, joiningLeast, joiningGreatest}
+use Rattle.context.specs.Running.{runs}
+use Rattle.fitness.proofs.First.{cleared-fit}
 use Rattle.reply.specs.declared.Own.{Own}
 use Rattle.radio.proofs.Answers.{step-keeps-fit}
 use Rattle.log_number.specs.Number.{greatest, numberAt, onNumber}
@@ -72,7 +73,7 @@ module _ (own : Own) (identity s : List ℕ) where
       Starts NoVersion = UnreadableAt 0 ≡ judgeOf own identity s
 
       pub begun-starts : Starts (begunOf s)
-      unfolding begunOf judgeOf versionJudged judgeOne judge runs cleared
+      unfolding begunOf judgeOf versionJudged judgeOne judge runningAmong cleared
       begun-starts = by-number (numberAt s 0) refl (number-moves s 0)
         where
           by-version : (version place : ℕ) → numberAt s 0 ≡ Value version place → Moves 5 greatest s 0 (Value version place) → (b : Bool) → eqb version 1 ≡ b

@@ -15,8 +15,8 @@ use Rattle.message.specs.declared.Reading.the-variants.{Is as Reads, Unreadable
 use Rattle.message.specs.Reading.{readMessage}
 use Rattle.context.specs.declared.Context.{Context}
 use Rattle.context.specs.Context.{cleared}
-use Rattle.context.specs.Fit.{fitOf}
-use Rattle.context.proofs.Fit.{fit-u0, fit-value}
+use Rattle.fitness.specs.First.{fitOf}
+use Rattle.fitness.proofs.First.{fit-u0, fit-value}
 use Rattle.transitions.specs.declared.Send.{Send}
 use Rattle.transitions.specs.declared.Send.the-variants.{Nothing}
 use Rattle.call.specs.declared.Event.the-variants.{Received}

@@ -9,7 +9,7 @@ use lib.ListN.{length}
 use borrow.Author.Tests.{ltb-false, eqb-false, eqb-true, not-false, le-leb, le-ltb}
 use Rattle.octets.proofs.Choice.{never}
 use Rattle.context.specs.declared.Context.{Context}
-use Rattle.context.specs.Fit.{fitOf}
+use Rattle.fitness.specs.First.{fitOf}
 use Rattle.radio.specs.declared.Happened.{Happened}
 use Rattle.radio.specs.Step.{outOfRange, refusalOf}
 

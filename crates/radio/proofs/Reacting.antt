@@ -26,8 +26,8 @@ use Rattle.message.specs.declared.Reading.{Reading}
 use Rattle.message.specs.declared.Reading.the-variants.{Is as Reads, Unreadable, TooLong}
 use Rattle.message.specs.Reading.{readMessage}
 use Rattle.context.specs.declared.Context.{Context}
-use Rattle.context.specs.Fit.{fitOf}
-use Rattle.context.proofs.Fit.{fit-value}
+use Rattle.fitness.specs.First.{fitOf}
+use Rattle.fitness.proofs.First.{fit-value}
 use Rattle.call.specs.declared.Due.{Due}
 use Rattle.call.specs.declared.Due.the-variants.{Steps, Refused}
 use Rattle.call.specs.declared.Event.{Event}

@@ -7,7 +7,7 @@ use lib.Dec.{eqb, leb, ltb}
 use Rattle.octets.specs.Rows.{rows}
 use Rattle.message.specs.declared.Reference.{Reference}
 use Rattle.context.specs.declared.Context.{Context}
-use Rattle.context.specs.Fit.{fitOf}
+use Rattle.fitness.specs.First.{fitOf}
 use Rattle.call.specs.declared.Event.{Event}
 use Rattle.call.specs.declared.Event.the-variants.{
   SetUp,

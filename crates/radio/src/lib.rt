@@ -108,7 +108,7 @@ fn refusal(
 ) -> u8
     ensures { λ r. ⌜ r ≡ refusalOf context key identity happened octets room ⌝ }
 {
-    if !context::is_fit(context) {
+    if !fitness::is_fit(context) {
         return 7;
     }
     if room < 255 {

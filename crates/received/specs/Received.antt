@@ -44,7 +44,7 @@ isNotOurs x s =
     same (x .state) U0 ||
     (ltb (length s) 2 ||
     (not (eqb (getD s 0 0 % 16) discriminator) ||
-    not (transactionIs (flagOf (x .state)) (x .value) (getD s 0 0))))
+    not (transactionIs (flagOf x) (x .value) (getD s 0 0))))
 
 -- The cause that a decision reports, and 0 where it reports none.
 unfoldable pub causeIn : Decision → ℕ

@@ -41,7 +41,7 @@ fn is_not_ours(context: Context, octets: &[u8]) -> bool
     if first % 16 != 1 {
         return true;
     }
-    let flag = context::expected_flag(state);
+    let flag = context::expected_flag(context);
     !transaction_is(flag, context.value, first)
 }
 

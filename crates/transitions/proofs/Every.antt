@@ -12,7 +12,7 @@ use Rattle.codes.specs.declared.state.State.the-variants.{U0}
 use Rattle.context.specs.declared.Context.{Context}
 use Rattle.context.specs.States.{same}
 use Rattle.context.proofs.Whole.{and-left, and-right}
-use Rattle.transitions.specs.declared.Timer.{Timer}
+use Rattle.timer.specs.declared.Timer.{Timer}
 use Rattle.transitions.specs.declared.Send.{Send}
 use Rattle.transitions.specs.declared.Decision.{Decision}
 use Rattle.transitions.specs.declared.Decision.the-variants.{Take, NoStep, Ignore, Report, TellStatus, SetParameters}

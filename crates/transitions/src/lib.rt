@@ -8,15 +8,7 @@ ghost use Rattle.transitions.specs.declared.Decision.the-variants.{NoSte
 ghost use Rattle.transitions.specs.Table.{heardIn, decidedIn, decidedOf};
 use codes::state::State;
 use context::Context;
-
-// A timer that a row stops or sets.
-pub enum Timer {
-    NoTimer,
-    MmEst,
-    Term,
-    ConnReq,
-    NoChannel,
-}
+use timer::Timer;
 
 // What is sent.
 pub enum Send {

@@ -12,8 +12,8 @@ use Rattle.message.specs.declared.Reading.{Reading}
 use Rattle.message.specs.declared.Reading.the-variants.{Is as Reads, Unreadable, TooLong}
 use Rattle.message.specs.Reading.{readMessage}
 use Rattle.context.specs.declared.Context.{Context}
-use Rattle.context.specs.Fit.{consistent, fitOf}
-use Rattle.context.proofs.Fit.{cleared-fit}
+use Rattle.fitness.specs.First.{consistent, fitOf}
+use Rattle.fitness.proofs.First.{cleared-fit}
 use Rattle.codes.specs.Attributes.{parametersOf}
 use Rattle.transitions.specs.declared.Decision.{Decision}
 use Rattle.transitions.specs.declared.Decision.the-variants.{Take, NoStep, Ignore, Report, TellStatus, SetParameters}

@@ -25,15 +25,16 @@ use Rattle.message.specs.declared.Message.the-variants.{
 use Rattle.message.specs.declared.Reading.{Reading}
 use Rattle.message.specs.declared.Reading.the-variants.{Is as Reads, Unreadable, TooLong}
 use Rattle.message.specs.Reading.{readMessage}
-use Rattle.context.specs.declared.Timers.{Timers}
+use Rattle.timer.specs.declared.Timers.{Timers}
 use Rattle.context.specs.declared.Context.{Context}
 use Rattle.context.specs.States.{same}
 use Rattle.context.specs.Context.{cleared}
-use Rattle.context.specs.Fit.{consistent, timersFit, fitOf}
+use Rattle.fitness.specs.Fitness.{timersFitBy}
+use Rattle.fitness.specs.First.{firstFitness, consistent, timersFit, fitOf}
 use Rattle.context.specs.Running.{runs}
 use Rattle.context.proofs.Whole.{and-left, and-right, if-so, at-state, ofTimers, at-timers}
-use Rattle.context.proofs.Fit.{fit-timers}
-use Rattle.transitions.specs.declared.Timer.{Timer}
+use Rattle.fitness.proofs.First.{fit-timers}
+use Rattle.timer.specs.declared.Timer.{Timer}
 use Rattle.transitions.specs.declared.Send.the-variants as Send
 use Rattle.transitions.specs.Table.{stepTable, decidedOf}
 use Rattle.transitions.proofs.Every.{Test, inTable, decided-holds}
@@ -43,7 +44,8 @@ use Rattle.call.specs.declared.Stores.{Stores}
 use Rattle.call.specs.declared.Seen.{Seen}
 use Rattle.call.specs.declared.Stepped.{Stepped as Taken}
 use Rattle.call.specs.Events.{seenMessage, seenOf}
-use Rattle.call.specs.Step.{withTimer, timersAfter, afterwards, ignored, noStep, reportedWith, statusTold, parametersSet, carriedOut, stepValue}
+use Rattle.timer.specs.Timers.{timerNumber, runningAmong, withTimer}
+use Rattle.call.specs.Step.{timersAfter, afterwards, ignored, noStep, reportedWith, statusTold, parametersSet, carriedOut, stepValue}
 use Rattle.reply.specs.declared.Own.{Own}
 use Rattle.received.specs.Received.{isNotOurs, typeCause, namesOther, disowns, understoodOf, onReading, heardOf}
 use Rattle.radio.specs.declared.Told.{Told}
@@ -55,7 +57,7 @@ use Rattle.table.specs.Points.{momentAfter}
 use Rattle.table.specs.Start.{NoneAnew}
 use Rattle.table.proofs.Start.{started-by-row}
 use Rattle.verdict.specs.Table.{Event, stepped, steps}
-use Rattle.verdict.specs.Start.{timerNumber, setBy, setByEvent, setByTold, setsTimer}
+use Rattle.verdict.specs.Start.{setBy, setByEvent, setByTold, setsTimer}
 use Rattle.verdict.proofs.Kept.{always-fit}
 
 -- ---- a test of a row
@@ -74,7 +76,7 @@ rightRow s n next actions sends stops sets =
     || rightly (cond (eqb n 12 && t .nochannel) 0 (timerNumber sets)) (runsOf t) (cond (same next U0) 0 (runsOf (timersAfter stops sets t))))
 
 rows-right : (x : Context) (s : State) → inTable (rightRow s) s x stepTable ≡ true
-unfolding stepTable timersFit withTimer
+unfolding stepTable timersFitBy withTimer firstFitness
 rows-right x = at-state (λ s. inTable (rightRow s) s x stepTable) refl
 
 -- No row of a message sets a timer.
@@ -96,7 +98,7 @@ stays n = rw (eq-eqb n n refl) (go (eqb n 0))
 
 runs-after : (x : Context) (next : State) (stops sets : Timer) (stores : Stores)
     → runs (afterwards x next stops sets stores) ≡ cond (same next U0) 0 (runsOf (timersAfter stops sets (x .timers)))
-unfolding runs afterwards cleared
+unfolding runningAmong afterwards cleared
 runs-after x next stops sets stores = go (same next U0) refl
   where
     go : (b : Bool) → same next U0 ≡ b → runs (afterwards x next stops sets stores) ≡ cond b 0 (runsOf (timersAfter stops sets (x .timers)))
@@ -124,12 +126,12 @@ module _ (x : Context) where
   told-right = at-cond (Right 0) (x .parameters .comm) _ _ (λ e. stays (runs x)) (λ e. ignored-right)
 
   set-right : (attributes : ℕ) → Right 0 (parametersSet attributes x)
-  unfolding parametersSet runs
+  unfolding parametersSet runningAmong
   set-right attributes = at-cond (Right 0) (consistent (x .state) (parametersOf attributes)) _ _ (λ e. stays (runs x)) (λ e. reported-right 98)
 
   module _ (fit : fitOf x ≡ true) where
     runs-now : runs x ≡ runsOf (x .timers)
-    unfolding runs
+    unfolding runningAmong
     runs-now = refl
 
     take-right : (n : ℕ) (next : State) (stops sets : Timer) (stores : Stores) → rightRow (x .state) n next 0 Send.Nothing stops sets ≡ true

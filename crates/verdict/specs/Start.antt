@@ -5,8 +5,7 @@ use mathlib.Core.List.{List}
 use lib.Dec.{eqb}
 use lib.ListN.{length}
 use Rattle.context.specs.declared.Context.{Context}
-use Rattle.transitions.specs.declared.Timer.{Timer}
-use Rattle.transitions.specs.declared.Timer.the-variants.{NoTimer, MmEst, Term, ConnReq, NoChannel}
+use Rattle.timer.specs.Timers.{timerNumber}
 use Rattle.transitions.specs.declared.Decision.{Decision}
 use Rattle.transitions.specs.declared.Decision.the-variants.{Take, NoStep, Ignore, Report, TellStatus, SetParameters}
 use Rattle.transitions.specs.Table.{decidedOf}
@@ -19,14 +18,6 @@ use Rattle.radio.specs.declared.Told.{Told}
 use Rattle.radio.specs.declared.Told.the-variants.{Is, NoEvent}
 use Rattle.radio.specs.Step.{eventOf, refusalOf}
 use Rattle.verdict.specs.Table.{Event}
-
--- The timers by number, as in the log's rules; 0 is none.
-abbrev pub timerNumber : Timer → ℕ
-timerNumber NoTimer = 0
-timerNumber MmEst = 1
-timerNumber Term = 2
-timerNumber ConnReq = 3
-timerNumber NoChannel = 4
 
 -- The timer that a row sets. Event 12: "set T_no channel unless running".
 abbrev pub setBy : Context → (event : ℕ) → Decision → ℕ
