@@ -19,11 +19,11 @@ use Rattle.message.specs.declared.Half.{Half}
 use Rattle.message.specs.declared.Half.the-variants.{Present}
 use Rattle.message.specs.declared.Message.{Message}
 use Rattle.message.specs.declared.Message.the-variants.{ImmediateSetup, Setup, TerminationRequest, Status}
-use Rattle.message.specs.Content.{Content, immediateSetup, setup, terminationRequest, status}
+use Rattle.message.specs.Content.{Content, immediateSetup, setup, terminationRequest, status, lies}
 use Rattle.message.specs.Tables.{written, fits}
 use Rattle.writing.specs.declared.Wrote.{Wrote}
 use Rattle.writing.specs.declared.Wrote.the-variants.{Written, ShortBuffer, OutOfRange}
-use Rattle.writing.specs.Writing.{lies, writable, octetsWritten, writeAnswer, writeLeaves}
+use Rattle.writing.specs.Writing.{writable, octetsWritten, writeAnswer, writeLeaves}
 use Rattle.context.specs.declared.Context.{Context}
 use Rattle.context.specs.States.{flagOf}
 use Rattle.transitions.specs.declared.Send.{Send}
