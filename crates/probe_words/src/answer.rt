@@ -23,25 +23,49 @@ pub(crate) fn answer_line(
     let word = next_word(line, words);
     let start = word.start;
     let count = word.count;
-    let rest = word.words;
-    let name = part(line, start, count);
+    let command = command_of(part(line, start, count));
+    answer_command(command, line, word.words, octets, buffer, output)
+}
+
+// The number of a command, in the order of docs/PROBE.md, and 0 for any other word. The word is looked up first and the command called then: a test and a
+// call by turns would carry every test along to every call.
+fn command_of(name: &[u8]) -> u8 {
     if same(name, b"read") {
-        return answer_read(line, rest, octets, buffer, output);
+        return 1;
     }
     if same(name, b"write") {
-        return answer_write(line, rest, octets, buffer, output);
+        return 2;
     }
     if same(name, b"step") {
-        return answer_step(line, rest, octets, buffer, output);
+        return 3;
     }
     if same(name, b"settings") {
-        return answer_settings(line, rest, octets, buffer, output);
+        return 4;
     }
     if same(name, b"judge") {
-        return answer_judge(line, rest, octets, buffer, output);
+        return 5;
     }
     if same(name, b"record") {
-        return answer_record(line, rest, octets, buffer, output);
+        return 6;
     }
-    malformed(buffer, output)
+    0
+}
+
+fn answer_command(
+    command: u8,
+    line: &[u8],
+    rest: Words,
+    octets: &mut [u8],
+    buffer: &mut [u8],
+    output: Output,
+) -> Output {
+    match command {
+        1 => answer_read(line, rest, octets, buffer, output),
+        2 => answer_write(line, rest, octets, buffer, output),
+        3 => answer_step(line, rest, octets, buffer, output),
+        4 => answer_settings(line, rest, octets, buffer, output),
+        5 => answer_judge(line, rest, octets, buffer, output),
+        6 => answer_record(line, rest, octets, buffer, output),
+        _ => malformed(buffer, output),
+    }
 }
