@@ -5,6 +5,7 @@ use mathlib.Core.Bool.{cond}
 use mathlib.Core.List.{List, [], _∷_}
 use Rattle.context.specs.declared.Context.{Context}
 use Rattle.reply.specs.declared.Own.{Own}
+use Rattle.version.specs.declared.Table.the-variants.{First}
 use Rattle.recorder.specs.Recording.{Records}
 use Rattle.recorder.specs.declared.Recorded.the-variants.{Used}
 use Rattle.table.specs.Recorded.{Move, entryOf}
@@ -19,6 +20,6 @@ module _ (version : ℕ) (own : Own) (identity : List ℕ) where
   Recording (m ∷ ms) x waited used before after total =
       cond (recordable own identity x (m .event))
       ((between : List ℕ) × (so-far : ℕ)
-      × Records (meantBy version own identity (entryOf (steps version own identity) x waited m)) used before between (Used so-far)
+      × Records First (meantBy version own identity (entryOf (steps version own identity) x waited m)) used before between (Used so-far)
       × Recording ms (steps version own identity .after x (m .event)) 0 so-far between after total)
       (Recording ms (steps version own identity .after x (m .event)) (waited + m .wait) used before after total)
