@@ -2,6 +2,7 @@ pub mod Laws
 pub mod Kept
 pub mod Carried
 pub mod Demand
+pub mod Formed
 pub mod Recorder
 pub mod Recordable
 pub mod Start

@@ -163,3 +163,12 @@ module _ (own : Own) (identity : List ℕ) (x : Context) (e : Event) (answered :
 
         total : ℕ
         total = used + length (added First used (meantBy version own identity (entryAfter version own identity x e delta)))
+
+    -- And within the limits of a log it records the entry.
+    pub true-step-taken : (log : List ℕ) (used : ℕ)
+        → used + length (added First used (meantBy version own identity (entryAfter version own identity x e delta))) ≤ longest
+        → used + length (added First used (meantBy version own identity (entryAfter version own identity x e delta))) ≤ length log
+        → recordAnswer First log used (meantBy version own identity (entryAfter version own identity x e delta))
+        ≡ Used (used + length (added First used (meantBy version own identity (entryAfter version own identity x e delta))))
+    unfolding recordAnswer
+    true-step-taken log used short room = rw (le-ltb (length log) used (omega arith), true-step-ranged, le-ltb longest _ short, le-ltb (length log) _ room) refl

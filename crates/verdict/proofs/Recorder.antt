@@ -12,7 +12,7 @@ use Rattle.context.specs.declared.Context.{Context}
 use Rattle.reply.specs.declared.Own.{Own}
 use Rattle.version.specs.declared.Table.the-variants.{First}
 use Rattle.version.specs.Version.{versionOf, longest}
-use Rattle.log_number.specs.Number.{numberAt}
+use Rattle.log_number.specs.Number.{grouped, groups, groupsAt, joined, numberAt}
 use Rattle.log_number.specs.declared.Number.the-variants.{Value}
 use Rattle.log_number.proofs.Meaning.{number-reads}
 use Rattle.log.specs.Layout.{Meant, carriesCall, ranged, kept, versionBytes, entries as layout, whole}
@@ -23,7 +23,8 @@ use Rattle.recorder.proofs.Growth.{grown, length-kept, log-grows, whole-grows, 
 use Rattle.table.specs.Steps.{Steps}
 use Rattle.table.specs.Log.{Entry, Moment, begin, next, Explains}
 use Rattle.table.specs.Timers.{Interval, Within}
-use Rattle.table.specs.Reading.{asLog, written as writtenBy, AllFine}
+use Rattle.table.specs.Judge.{judge, judgeFrom}
+use Rattle.table.specs.Reading.{asLog, entries, entriesIn, written as writtenBy, AllFine}
 use Rattle.table.specs.OneTimer.{oneTimer, lengthsWith, InRange, told, judgeOne}
 use Rattle.table.specs.Recorded.{Move, entryOf, recorded, MadeInTime}
 use Rattle.table.proofs.OneTimer.{one-timer-laws}
@@ -31,7 +32,7 @@ use Rattle.table.proofs.Complete.{recorded-explained, written-accepted}
 use Rattle.verdict.specs.declared.Judged.the-variants.{Accepted}
 use Rattle.verdict.specs.Table.{steps, joining, recordable}
 use Rattle.verdict.specs.Entries.{carriedBy, meantBy, carriedEntry, writer}
-use Rattle.verdict.specs.Judge.{settingsOut, judgedOf, judgeOf}
+use Rattle.verdict.specs.Judge.{settingsOut, versionJudged, judgedOf, judgeOf}
 use Rattle.verdict.specs.Demand.{Begins}
 use Rattle.verdict.specs.Host.{Recording}
 use Rattle.verdict.proofs.Laws.{steps-laws}
@@ -55,11 +56,11 @@ module _ (version : ℕ) (own : Own) (identity : List ℕ) where
 
   -- ---- what a log keeps of entries
 
-  abbrev carriedAll : List (Entry 𝓢) → List (Entry 𝓢)
+  abbrev pub carriedAll : List (Entry 𝓢) → List (Entry 𝓢)
   carriedAll [] = []
   carriedAll (e ∷ es) = carriedEntry version own identity e ∷ carriedAll es
 
-  abbrev meantAll : List (Entry 𝓢) → List Meant
+  abbrev pub meantAll : List (Entry 𝓢) → List Meant
   meantAll [] = []
   meantAll (e ∷ es) = meantBy version own identity e ∷ meantAll es
 
@@ -76,16 +77,16 @@ module _ (version : ℕ) (own : Own) (identity : List ℕ) where
       go true c = rw c
       go false c = rw c
 
-  carried-written : (es : List (Entry 𝓢)) → writtenBy (writer version own identity) (carriedAll es) ≡ layout First (meantAll es)
+  pub carried-written : (es : List (Entry 𝓢)) → writtenBy (writer version own identity) (carriedAll es) ≡ layout First (meantAll es)
   unfolding layout
   carried-written [] = refl
   carried-written (e ∷ es) = rw (meant-carried e, kept-written First (meantBy version own identity e), carried-written es)
 
-  abbrev AllRanged : List (Entry 𝓢) → Type 0
+  abbrev pub AllRanged : List (Entry 𝓢) → Type 0
   AllRanged [] = Unit {0}
   AllRanged (e ∷ es) = (ranged First (meantBy version own identity e) ≡ true) × AllRanged es
 
-  carried-fine : (es : List (Entry 𝓢)) → AllRanged es → AllFine (writer version own identity) (carriedAll es)
+  pub carried-fine : (es : List (Entry 𝓢)) → AllRanged es → AllFine (writer version own identity) (carriedAll es)
   carried-fine [] r = tt
   carried-fine (e ∷ es) r = (
     record {
@@ -153,7 +154,7 @@ module _ (version : ℕ) (own : Own) (identity : List ℕ) where
 
 -- ---- the promise
 
-version-reads : (rest : List ℕ) → numberAt (versionBytes First ++ rest) 0 ≡ Value (versionOf First) (length (versionBytes First))
+pub version-reads : (rest : List ℕ) → numberAt (versionBytes First ++ rest) 0 ≡ Value (versionOf First) (length (versionBytes First))
 unfolding versionOf
 version-reads rest = number-reads 1 (omega arith) [] rest ∙ ap (Value 1) (zero-add (length (versionBytes First)))
 
@@ -219,3 +220,9 @@ module _ (own : Own) (identity : List ℕ) (settings : settingsOut (own .key) (l
         let g = recording-grows 1 own identity (whole First) (whole-grows First) ms (𝓢₁ .cleared) 0 used before after total [] (b .used) (b .inside) recording in
         let u : length (take total after) ≡ total = length-take-le total after (g .inside) in
         whole-accepted (take total after) (g .bytes) (rw u (g .short (b .short))) (g .in-range)
+
+-- A log that the recorder began, with no entry: it is accepted with 0 entries, and every joining timer is left.
+pub begun-alone : (own : Own) (identity : List ℕ) → settingsOut (own .key) (length identity) ≡ false → (before after : List ℕ) (used : ℕ)
+    → LogBegins First before after (Used used) → judgeOf own identity (take used after) ≡ Accepted 0 (joining .low) (joining .high)
+unfolding whole layout versionOf grouped groups judgeOf versionJudged numberAt groupsAt joined entries entriesIn judgeOne judge judgeFrom
+begun-alone own identity settings before after used begun = rw (begun-log First before after used begun .used, settings) refl
