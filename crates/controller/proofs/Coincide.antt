@@ -5,11 +5,11 @@ use mathlib.Core.List.{List}
 use lib.ListN.{length}
 use lib.Seq.{sets}
 use Rattle.octets.proofs.Coincide.{coincide}
-use Rattle.log_number.specs.Number.{grouped, numberAt}
-use Rattle.log_number.specs.Writing.{fitting}
+use Rattle.version.specs.declared.Table.the-variants.{First}
+use Rattle.log_number.specs.Number.{numberAt}
 use Rattle.context.specs.Context.{cleared}
-use Rattle.log.specs.Layout.{Meant}
-use Rattle.recorder.specs.Recording.{added, afterwards, recordAnswer}
+use Rattle.log.specs.Layout.{Meant, versionBytes}
+use Rattle.recorder.specs.Recording.{added, afterwards, beginAnswer, recordAnswer}
 use Rattle.settings.specs.Settings.{settingsOf}
 use Rattle.verdict.specs.Judge.{judgeOf}
 use Rattle.context_octets.specs.Octets.{octetsOf}
@@ -23,7 +23,7 @@ use Rattle.controller.specs.declared.stepping.Step.{Step}
 use Rattle.controller.specs.Configuring.{keptOctets, settingsShown}
 use Rattle.controller.specs.Judging.{judgementOf}
 use Rattle.controller.specs.Numbering.{numberShown}
-use Rattle.controller.specs.Recording.{begunOf, toldBy, usedOf}
+use Rattle.controller.specs.Recording.{EntryRecorded, LogBegun, toldBy, usedOf}
 use Rattle.controller.specs.Stepping.{Call, Comes, callOf}
 
 -- A result and one lent buffer.
@@ -44,18 +44,17 @@ step-coincides c s d m event a b x y e f p q =
     let call : Call = callOf c s (length d) event m in
     (coincide (call .step) a b (p .0) (q .0), coincide (call .context) x y (p .1) (q .1), coincide (sets d 0 (call .reply)) e f (p .2) (q .2))
 
-pub begin-log-coincides : (log : List ℕ) (a b : Used) (e f : List ℕ) → (a ≡ begunOf log) × (e ≡ sets log 0 (fitting log (grouped 1)))
-    → (b ≡ begunOf log) × (f ≡ sets log 0 (fitting log (grouped 1))) → (a ≡ b) × (e ≡ f)
-begin-log-coincides log a b e f = both (begunOf log) a b (sets log 0 (fitting log (grouped 1))) e f
+pub begin-log-coincides : (log : List ℕ) (a b : Used) (e f : List ℕ) → LogBegun log a e → LogBegun log b f → (a ≡ b) × (e ≡ f)
+begin-log-coincides log a b e f =
+    both (usedOf 0 (beginAnswer First log)) a b (afterwards log 0 (versionBytes First) (beginAnswer First log)) e f
 
 module _ (log message context reply : List ℕ) (used delta : ℕ) (event : Event) (step : Step) where
   abbrev told : Meant
   told = toldBy delta event message step context reply
 
-  pub record-coincides : (a b : Used) (e f : List ℕ)
-      → (a ≡ usedOf used (recordAnswer log used told)) × (e ≡ afterwards log used (added used told) (recordAnswer log used told))
-      → (b ≡ usedOf used (recordAnswer log used told)) × (f ≡ afterwards log used (added used told) (recordAnswer log used told)) → (a ≡ b) × (e ≡ f)
-  record-coincides a b e f = both (usedOf used (recordAnswer log used told)) a b (afterwards log used (added used told) (recordAnswer log used told)) e f
+  pub record-coincides : (a b : Used) (e f : List ℕ) → EntryRecorded told used log a e → EntryRecorded told used log b f → (a ≡ b) × (e ≡ f)
+  record-coincides a b e f =
+      both (usedOf used (recordAnswer First log used told)) a b (afterwards log used (added First used told) (recordAnswer First log used told)) e f
 
 pub judge-coincides : (s log : List ℕ) (a b : Judgement) → a ≡ judgementOf (judgeOf (ownOf s) (identityOf s) log)
     → b ≡ judgementOf (judgeOf (ownOf s) (identityOf s) log) → a ≡ b

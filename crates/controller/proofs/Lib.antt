@@ -1,5 +1,6 @@
 pub mod Coincide
 pub mod Files
+pub mod Hosted
 pub mod Laws
 pub mod Records
 pub mod Steps

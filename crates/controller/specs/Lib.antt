@@ -1,4 +1,5 @@
 pub mod Configuring
+pub mod Hosting
 pub mod Judging
 pub mod Numbering
 pub mod Recording
