@@ -1,4 +1,5 @@
 pub mod Laws
+pub mod Near
 pub mod Kept
 pub mod Carried
 pub mod Demand
