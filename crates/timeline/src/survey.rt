@@ -18,6 +18,7 @@ use crate::place::sum;
 use log::Entry;
 use log::Found;
 use log::read_entry;
+use version::Table;
 
 // The shortest joining timer.
 const LEAST_JOINING: u64 = 10000;
@@ -77,7 +78,7 @@ fn is_over(log: &[u8], found: Survey) -> bool {
 fn survey_next(log: &[u8], found: Survey) -> Survey {
     let place = found.place;
     let bounds = found.bounds;
-    match read_entry(log, place.at) {
+    match read_entry(Table::First, log, place.at) {
         Found::Unreadable(fault) => Survey {
             place,
             bounds,
