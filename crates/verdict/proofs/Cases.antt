@@ -15,7 +15,7 @@ use Rattle.received.specs.Received.{isNotOurs, sameOctets, heardOf}
 use Rattle.radio.specs.Step.{eventOf, onEvent, reactedTo, outOfRange, stepOf}
 use Rattle.log_number.specs.Number.{joined, groupsAt, numberAt, upTo}
 use Rattle.log.specs.Layout.{carriesCall}
-use Rattle.version.specs.Version.{greatestEvent, greatestState, greatestActions}
+use Rattle.version.specs.Version.{tableOf, greatestEvent, greatestState, greatestActions}
 use Rattle.log.specs.Reading.{smallAt, runAt, callAt, receivedAt, dataAt, claimAt, restAt, entryAt}
 use Rattle.table.specs.Judge.{narrow, turn, judgeFrom, judge}
 use Rattle.table.specs.Reading.{entriesIn, entries}
@@ -87,5 +87,5 @@ Answered (c ∷ cs) =
     ((answerNumber (judgeOf own identity (c .0)) ≡ c .1) × (answerValues (judgeOf own identity (c .0)) ≡ c .2)) × Answered cs
 
 pub all-cases : Answered cases
-unfolding judgeOf versionJudged settingsOut judgeOne judge judgeFrom turn narrow entries entriesIn numberAt groupsAt joined upTo smallAt runAt callAt receivedAt dataAt claimAt restAt entryAt greatestEvent greatestState greatestActions carriesCall agree parametersNumber weighs stepOf outOfRange reactedTo eventOf onEvent stepValue seenOf carriedOut decidedOf decidedIn stepTable heardIn noStep ignored afterwards withTimer parametersAfter startRow valueAfter referenceAfter cleared fitOf consistent timersFit isCleared runs expiryOf lengthOf replyOf heardOf isNotOurs sameOctets
+unfolding judgeOf versionJudged tableOf settingsOut judgeOne judge judgeFrom turn narrow entries entriesIn numberAt groupsAt joined upTo smallAt runAt callAt receivedAt dataAt claimAt restAt entryAt greatestEvent greatestState greatestActions carriesCall agree parametersNumber weighs stepOf outOfRange reactedTo eventOf onEvent stepValue seenOf carriedOut decidedOf decidedIn stepTable heardIn noStep ignored afterwards withTimer parametersAfter startRow valueAfter referenceAfter cleared fitOf consistent timersFit isCleared runs expiryOf lengthOf replyOf heardOf isNotOurs sameOctets
 all-cases = ((refl, refl), ((refl, refl), ((refl, refl), ((refl, refl), ((refl, refl), ((refl, refl), ((refl, refl), ((refl, refl), ((refl, refl), ((refl, refl), ((refl, refl), ((refl, refl), tt))))))))))))

@@ -31,6 +31,7 @@ use Rattle.radio.specs.declared.Told.{Told}
 use Rattle.radio.specs.declared.Told.the-variants.{Is, NoEvent}
 use Rattle.radio.specs.Step.{eventOf, onEvent, reactedTo, outOfRange, Reaction, refused, reacted, stepOf}
 use Rattle.radio.proofs.Reacting.{react-fit}
+use Rattle.version.specs.declared.Table.{Table}
 use Rattle.table.specs.Log.{Log, Entry, begin}
 use Rattle.table.specs.Points.{momentAfter}
 use Rattle.table.specs.Recorded.{Still}
@@ -58,13 +59,13 @@ any-room own identity room x e h = rw (le-ltb room 255 h)
 
 -- ---- every context come to is fit
 
-module _ (version : ℕ) (own : Own) (identity : List ℕ) where
-  pub fit-after : (x : Context) (e : Event) → fitOf x ≡ true → fitOf (steps version own identity .after x e) ≡ true
+module _ (table : Table) (own : Own) (identity : List ℕ) where
+  pub fit-after : (x : Context) (e : Event) → fitOf x ≡ true → fitOf (steps table own identity .after x e) ≡ true
   fit-after x e fit =
       of-step own identity x e (λ r. fitOf (r .context) ≡ true) (λ n. fit) (λ f r. react-fit identity x (e .happened) (e .octets) (own .key) f r)
 
-  pub always-fit : (n : ℕ) (log : Log (Entry (steps version own identity))) → fitOf (momentAfter (steps version own identity) n (begin (steps version own identity)) log .context) ≡ true
-  always-fit n log = always (steps version own identity) (λ x. fitOf x ≡ true) cleared-fit fit-after n log
+  pub always-fit : (n : ℕ) (log : Log (Entry (steps table own identity))) → fitOf (momentAfter (steps table own identity) n (begin (steps table own identity)) log .context) ≡ true
+  always-fit n log = always (steps table own identity) (λ x. fitOf x ≡ true) cleared-fit fit-after n log
 
 -- ---- answers
 
@@ -126,7 +127,7 @@ module _ (x : Context) where
       at-cond Low (eqb (h .number) 18) _ _ (λ e. heard-low identity (h .mode) s) (λ e. event-low (eventOf (h .number) (h .value) (h .reference)))
 
 -- A step that is answered over 3 changes nothing.
-pub still : (version : ℕ) (own : Own) (identity : List ℕ) → Still (steps version own identity) (recordable own identity)
-still version own identity x e =
+pub still : (table : Table) (own : Own) (identity : List ℕ) → Still (steps table own identity) (recordable own identity)
+still table own identity x e =
     of-step own identity x e (λ r. leb (r .answer) 3 ≡ false → r .context ≡ x) (λ n q. refl)
     (λ f o q. never (sym q ∙ react-low x identity (e .happened) (e .octets)))

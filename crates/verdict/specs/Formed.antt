@@ -4,7 +4,6 @@ use mathlib.Core.Path.{_≡_}
 use mathlib.Core.Bool.{true}
 use mathlib.Core.List.{List, [], _∷_}
 use Rattle.version.specs.declared.Table.{Table}
-use Rattle.version.specs.declared.Table.the-variants.{First}
 use Rattle.version.specs.Version.{versionOf}
 use Rattle.reply.specs.declared.Own.{Own}
 use Rattle.log_number.specs.Number.{numberAt}
@@ -14,10 +13,10 @@ use Rattle.table.specs.Log.{WellFormed}
 use Rattle.verdict.specs.Judge.{entriesAt}
 
 -- As it is read: the version stands first, and every entry behind it can be read.
-pub record Readable (own : Own) (identity s : List ℕ) : Type 0 where
+pub record Readable (table : Table) (own : Own) (identity s : List ℕ) : Type 0 where
   pub place : ℕ
-  pub version : numberAt s 0 ≡ Value (versionOf First) place
-  pub entries : WellFormed (entriesAt 1 own identity s place)
+  pub version : numberAt s 0 ≡ Value (versionOf table) place
+  pub entries : WellFormed (entriesAt table own identity s place)
 
 -- As the layout has it: the version, and entries in range written one behind the other.
 abbrev pub AllInRange : Table → List Meant → Type 0
