@@ -5,7 +5,7 @@ use mathlib.Core.Bool.{Bool, true, false, _||_}
 use lib.Dec.{eqb, ltb}
 use borrow.Author.Tests.{ltb-false, le-ltb}
 use Rattle.octets.proofs.Choice.{never}
-use Rattle.context.specs.Running.{expiryOf}
+use Rattle.timer.specs.Timers.{expiryOf}
 use Rattle.judge_time.specs.declared.Clock.{Clock}
 use Rattle.judge_time.specs.declared.Ticked.{Ticked}
 use Rattle.judge_time.specs.declared.Ticked.the-variants.{OutOfTime, Astray}

@@ -28,7 +28,7 @@ impl Clock {
 fn is_untimely(timer: u8, age: u64, ends: bool) -> bool
     ensures { λ r. ⌜ r ≡ untimelyAt timer age ends ⌝ }
 {
-    let length = context::timer_length(0, timer) as u64;
+    let length = timer::timer_length(0, timer) as u64;
     let wrong = (ends & (age != length)) | (length < age);
     (timer != 0) & ((timer != 3) & wrong)
 }
@@ -108,7 +108,7 @@ pub fn tick(clock: Clock, before: u8, after: u8, delta: u32, event: u8) -> Ticke
         return left_with(clock.least, clock.greatest, now, started);
     }
     let age = now - clock.started;
-    let ends = context::expired_timer(event as u32) == before;
+    let ends = timer::expired_timer(event as u32) == before;
     if is_untimely(before, age, ends) {
         return Ticked::OutOfTime;
     }

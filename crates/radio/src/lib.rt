@@ -3,8 +3,7 @@
 ghost use mathlib.Core.Path.{_≡_};
 ghost use lib.ListN.{length};
 ghost use lib.Seq.{sets};
-ghost use Rattle.call.specs.Due.{settled};
-ghost use Rattle.radio.specs.Step.{eventOf, reactedTo, outOfRange, refusalOf, shown, stepOf, takenOf};
+ghost use Rattle.radio.specs.Step.{eventOf, dueTo, reactedTo, outOfRange, fitnessRefusal, argumentRefusal, refusalOf, shown, stepOf, takenOf};
 use call::Due;
 use call::Event;
 use context::Context;
@@ -66,7 +65,7 @@ fn event_of(number: u32, value: u8, reference: Reference) -> Told
 
 // What is due where an event in range happens.
 fn due_to(context: Context, identity: &[u8], happened: Happened, octets: &[u8]) -> Due
-    ensures { λ r. ⌜ settled context r ≡ reactedTo (now (identity .entry)) context happened (now (octets .entry)) ⌝ }
+    ensures { λ r. ⌜ r ≡ dueTo (now (identity .entry)) context happened (now (octets .entry)) ⌝ }
 {
     let reference = happened.reference;
     if happened.number == 18 {
@@ -79,11 +78,11 @@ fn due_to(context: Context, identity: &[u8], happened: Happened, octets: &[u8]) 
 }
 
 // The step of an event that is in range.
-fn react(context: Context, identity: &[u8], happened: Happened, octets: &[u8]) -> call::Stepped
+fn react(context: Context, identity: &[u8], happened: Happened, octets: &[u8]) -> call::Settled
     ensures { λ r. ⌜ r ≡ reactedTo (now (identity .entry)) context happened (now (octets .entry)) ⌝ }
 {
     let due = due_to(context, identity, happened, octets);
-    call::settle(context, due)
+    call_step::settle(context, due)
 }
 
 // Whether something is outside its range.
@@ -97,20 +96,20 @@ fn is_out_of_range(key: u8, identity: usize, happened: Happened) -> bool
     (7 < key) | ((identity == 0) | ((8 < identity) | (no_event | (no_mode | no_value))))
 }
 
-// Why a step is refused, in the order of the tests: 7, 5, 6, 4; and 0 where it is not.
-fn refusal(
-    context: Context,
-    key: u8,
-    identity: usize,
-    happened: Happened,
-    octets: usize,
-    room: usize,
-) -> u8
-    ensures { λ r. ⌜ r ≡ refusalOf context key identity happened octets room ⌝ }
+// The first part of a refusal: 7 where the context is not fit, else 0.
+fn fitness_refusal(context: Context) -> u8
+    ensures { λ r. ⌜ r ≡ fitnessRefusal context ⌝ }
 {
-    if !context::is_fit(context) {
+    if !fitness::is_fit(context) {
         return 7;
     }
+    0
+}
+
+// The second part, whatever the context: 5, 6 and 4 in their order, else 0.
+fn argument_refusal(key: u8, identity: usize, happened: Happened, octets: usize, room: usize) -> u8
+    ensures { λ r. ⌜ r ≡ argumentRefusal key identity happened octets room ⌝ }
+{
     if room < 255 {
         return 5;
     }
@@ -123,18 +122,35 @@ fn refusal(
     0
 }
 
+// Why a step is refused, in the order of the tests: 7, 5, 6, 4; and 0 where it is not.
+fn refusal(
+    context: Context,
+    key: u8,
+    identity: usize,
+    happened: Happened,
+    octets: usize,
+    room: usize,
+) -> u8
+    ensures { λ r. ⌜ r ≡ refusalOf context key identity happened octets room ⌝ }
+{
+    let unfit = fitness_refusal(context);
+    let unsuited = argument_refusal(key, identity, happened, octets, room);
+    if unfit != 0 {
+        return unfit;
+    }
+    unsuited
+}
+
 // A refusal: nothing is changed.
 fn refused(context: Context, answer: u8) -> Stepped
     ensures { λ r. ⌜ r ≡ shown (Rattle.radio.specs.Step.refused answer context) ⌝ }
 {
-    Stepped {
-        context,
-        outcome: Outcome {
-            answer,
-            actions: 0,
-            count: 0,
-        },
-    }
+    let outcome = Outcome {
+        answer,
+        actions: 0,
+        count: 0,
+    };
+    Stepped { context, outcome }
 }
 
 // The step without its tests, for a caller that has made them. The reply is written over the start of `reply`; of a message received `octets` are
