@@ -30,9 +30,10 @@ use saying::write_count;
 use survey::Survey;
 use survey::survey_log;
 use survey::view_of;
+use version::Table;
 
 // The most bytes that a log has.
-const MOST: usize = 65536;
+const MOST: usize = version::LONGEST;
 
 // Draws a log, the file `name`, into the new file `path`, and answers the verdict.
 pub fn tell_timeline(log: &[u8], name: &[u8], path: &[u8]) -> u8 {
@@ -41,8 +42,8 @@ pub fn tell_timeline(log: &[u8], name: &[u8], path: &[u8]) -> u8 {
         return 1;
     }
     match read_number(log, 0) {
-        Number::Value(version, at) => {
-            if version == 1 {
+        Number::Value(number, at) => {
+            if number == version::number(Table::First) {
                 return draw_log(log, at, name, path);
             }
             refuse_version(log)

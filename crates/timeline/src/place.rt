@@ -3,6 +3,7 @@ use log::Entry;
 use log::Found;
 use log::read_entry;
 use timer::Timers;
+use version::Table;
 
 // The picture is 297 mm wide, 4 units a millimetre. Time runs from LEFT to RIGHT, and its marks stay LEAD away from both.
 pub(crate) const MARGIN: u64 = 28;
@@ -196,7 +197,7 @@ pub(crate) fn onward(view: View, place: Place, entry: Entry, at: usize) -> Place
 
 // The place behind the next entry. Where there is none to be read, the walk stays, and counts on so that it ends.
 pub(crate) fn next_place(log: &[u8], view: View, place: Place) -> Place {
-    let Found::Read(entry, at) = read_entry(log, place.at) else {
+    let Found::Read(entry, at) = read_entry(Table::First, log, place.at) else {
         return Place {
             at: place.at,
             number: std::num::wrapping_add_usize(place.number, 1),

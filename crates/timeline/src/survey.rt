@@ -18,6 +18,7 @@ use log::Entry;
 use log::Found;
 use log::read_entry;
 use timer::Timers;
+use version::Table;
 
 // The timers that the times leave. `conflict` is the first entry, if any, at which none is left: the timer has run for `elapsed` there,
 // and the bounds are those of the entries before.
@@ -74,7 +75,7 @@ fn is_over(log: &[u8], found: Survey) -> bool {
 fn survey_next(log: &[u8], found: Survey) -> Survey {
     let place = found.place;
     let bounds = found.bounds;
-    match read_entry(log, place.at) {
+    match read_entry(Table::First, log, place.at) {
         Found::Unreadable(fault) => Survey {
             place,
             bounds,

@@ -18,6 +18,7 @@ use Rattle.received.specs.Due.{dueOf}
 use Rattle.radio.specs.Step.{eventOf, toldDue, dueTo, reactedTo, outOfRange, fitnessRefusal, argumentRefusal, refusalOf, stepOf}
 use Rattle.log_number.specs.Number.{joined, groupsAt, numberAt, upTo}
 use Rattle.log.specs.Layout.{carriesCall}
+use Rattle.version.specs.Version.{tableOf, greatestEvent, greatestState, greatestActions}
 use Rattle.log.specs.Reading.{smallAt, runAt, callAt, receivedAt, dataAt, claimAt, restAt, entryAt}
 use Rattle.table.specs.Judge.{narrow, turn, judgeFrom, judge}
 use Rattle.table.specs.Reading.{entriesIn, entries}
@@ -89,5 +90,5 @@ Answered (c ∷ cs) =
     ((answerNumber (judgeOf own identity (c .0)) ≡ c .1) × (answerValues (judgeOf own identity (c .0)) ≡ c .2)) × Answered cs
 
 pub all-cases : Answered cases
-unfolding judgeOf versionJudged settingsOut judgeOne judge judgeFrom turn narrow entries entriesIn numberAt groupsAt joined upTo smallAt runAt callAt receivedAt dataAt claimAt restAt entryAt carriesCall agree parametersNumber weighs stepOf refusalOf fitnessRefusal argumentRefusal outOfRange reactedTo dueTo eventOf toldDue settledBy stepBy seenOf carriedOut decidedBy decidedIn stepTable heardIn happenedIn noStep ignored afterwards withTimer parametersAfter entering startRow valueAfter referenceAfter cleared fitBy consistentBy timersFitBy isCleared runningAmong expiryOf lengthOf replyOf dueOf sameOctets firstFitness
+unfolding judgeOf versionJudged tableOf settingsOut judgeOne judge judgeFrom turn narrow entries entriesIn numberAt groupsAt joined upTo smallAt runAt callAt receivedAt dataAt claimAt restAt entryAt greatestEvent greatestState greatestActions carriesCall agree parametersNumber weighs stepOf refusalOf fitnessRefusal argumentRefusal outOfRange reactedTo dueTo eventOf toldDue settledBy stepBy seenOf carriedOut decidedBy decidedIn stepTable heardIn happenedIn noStep ignored afterwards withTimer parametersAfter entering startRow valueAfter referenceAfter cleared fitBy consistentBy timersFitBy isCleared runningAmong expiryOf lengthOf replyOf dueOf sameOctets firstFitness
 all-cases = ((refl, refl), ((refl, refl), ((refl, refl), ((refl, refl), ((refl, refl), ((refl, refl), ((refl, refl), ((refl, refl), ((refl, refl), ((refl, refl), ((refl, refl), ((refl, refl), tt))))))))))))

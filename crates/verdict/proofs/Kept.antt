@@ -12,6 +12,7 @@ use Rattle.fitness.proofs.First.{cleared-fit}
 use Rattle.reply.specs.declared.Own.{Own}
 use Rattle.radio.specs.Step.{argumentRefusal, refusalOf, Reaction, stepOf}
 use Rattle.radio.proofs.Answers.{step-honest, step-keeps-fit}
+use Rattle.version.specs.declared.Table.{Table}
 use Rattle.table.specs.Log.{Log, Entry, begin}
 use Rattle.table.specs.Points.{momentAfter}
 use Rattle.table.specs.Recorded.{Still}
@@ -26,16 +27,16 @@ any-room own identity room x e h = rw (le-ltb room 255 h)
 
 -- ---- every context come to is fit
 
-module _ (version : ℕ) (own : Own) (identity : List ℕ) where
-  pub fit-after : (x : Context) (e : Event) → fitOf x ≡ true → fitOf (steps version own identity .after x e) ≡ true
+module _ (table : Table) (own : Own) (identity : List ℕ) where
+  pub fit-after : (x : Context) (e : Event) → fitOf x ≡ true → fitOf (steps table own identity .after x e) ≡ true
   fit-after x e fit = step-keeps-fit own identity 255 x (e .happened) (e .octets) fit
 
-  pub always-fit : (n : ℕ) (log : Log (Entry (steps version own identity))) → fitOf (momentAfter (steps version own identity) n (begin (steps version own identity)) log .context) ≡ true
-  always-fit n log = always (steps version own identity) (λ x. fitOf x ≡ true) cleared-fit fit-after n log
+  pub always-fit : (n : ℕ) (log : Log (Entry (steps table own identity))) → fitOf (momentAfter (steps table own identity) n (begin (steps table own identity)) log .context) ≡ true
+  always-fit n log = always (steps table own identity) (λ x. fitOf x ≡ true) cleared-fit fit-after n log
 
 -- A step that is answered over 3 changes nothing.
-pub still : (version : ℕ) (own : Own) (identity : List ℕ) → Still (steps version own identity) (recordable own identity)
-still version own identity x e q =
+pub still : (table : Table) (own : Own) (identity : List ℕ) → Still (steps table own identity) (recordable own identity)
+still table own identity x e q =
     let r : Reaction = stepped own identity x e in
     step-honest own identity 255 x (e .happened) (e .octets) .kept (λ z. over (r .answer) z q)
   where

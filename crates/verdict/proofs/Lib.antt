@@ -1,7 +1,9 @@
 pub mod Laws
+pub mod Near
 pub mod Kept
 pub mod Carried
 pub mod Demand
+pub mod Formed
 pub mod Recorder
 pub mod Recordable
 pub mod Start

@@ -17,6 +17,7 @@ use Rattle.call.specs.Sets.{setByDue}
 use Rattle.call.proofs.Timed.{stays, timed-by}
 use Rattle.reply.specs.declared.Own.{Own}
 use Rattle.radio.specs.Step.{dueTo, reactedTo, refusalOf, reacted, refused, stepOf}
+use Rattle.version.specs.declared.Table.{Table}
 use Rattle.table.specs.Log.{Log, Entry, Moment, begin, timerAfter, timeOf, next}
 use Rattle.table.specs.Points.{momentAfter}
 use Rattle.table.specs.Start.{NoneAnew}
@@ -53,9 +54,9 @@ where-none set before after r z n =
     eqb-true after before (one-of (eqb after 0) _ q (ne-eqb after 0 n))
 
 -- "no row turns on a timer that runs": in every fit context, so in every context come to.
-pub none-anew : (version : ℕ) (own : Own) (identity : List ℕ) (x : Context) (e : Event) → fitOf x ≡ true
-    → NoneAnew (steps version own identity) (setsTimer own identity x e) x e
-none-anew version own identity x e fit =
+pub none-anew : (table : Table) (own : Own) (identity : List ℕ) (x : Context) (e : Event) → fitOf x ≡ true
+    → NoneAnew (steps table own identity) (setsTimer own identity x e) x e
+none-anew table own identity x e fit =
     let r = step-right own identity x e fit in
     record {
       not-before = λ n. where-set (setsTimer own identity x e) (runs x) (runs (stepped own identity x e .context)) r n .1;
@@ -64,12 +65,12 @@ none-anew version own identity x e fit =
     }
 
 -- So the start that the judge keeps is right: after each entry of a log, a timer that runs was started by that entry exactly if its row sets one.
-pub start-by-row : (version : ℕ) (own : Own) (identity : List ℕ) (n : ℕ) (log : Log (Entry (steps version own identity))) (e : Entry (steps version own identity))
-    → let s : Moment (steps version own identity) = momentAfter (steps version own identity) n (begin (steps version own identity)) log in
-    (timerAfter (steps version own identity) s e ≡ 0 → ⊥)
-    → next (steps version own identity) s e .started
-    ≡ cond (eqb (setsTimer own identity (s .context) (e .event)) 0) (s .started) (timeOf (steps version own identity) s e)
-start-by-row version own identity n log e on =
-    let s : Moment (steps version own identity) = momentAfter (steps version own identity) n (begin (steps version own identity)) log in
-    started-by-row (steps version own identity) (setsTimer own identity (s .context) (e .event)) s e
-    (none-anew version own identity (s .context) (e .event) (always-fit version own identity n log)) on
+pub start-by-row : (table : Table) (own : Own) (identity : List ℕ) (n : ℕ) (log : Log (Entry (steps table own identity))) (e : Entry (steps table own identity))
+    → let s : Moment (steps table own identity) = momentAfter (steps table own identity) n (begin (steps table own identity)) log in
+    (timerAfter (steps table own identity) s e ≡ 0 → ⊥)
+    → next (steps table own identity) s e .started
+    ≡ cond (eqb (setsTimer own identity (s .context) (e .event)) 0) (s .started) (timeOf (steps table own identity) s e)
+start-by-row table own identity n log e on =
+    let s : Moment (steps table own identity) = momentAfter (steps table own identity) n (begin (steps table own identity)) log in
+    started-by-row (steps table own identity) (setsTimer own identity (s .context) (e .event)) s e
+    (none-anew table own identity (s .context) (e .event) (always-fit table own identity n log)) on
