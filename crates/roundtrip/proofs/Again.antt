@@ -28,7 +28,7 @@ use Rattle.limits.specs.Limits.{runFits, halfFits, halfCount}
 use Rattle.writing.specs.Bodies.{bodyFits}
 use Rattle.limits.proofs.Tests.{run-good, status-total}
 use Rattle.writing.proofs.Fitting.{fits-same}
-use Rattle.roundtrip.specs.Back.{Says, GivesBack}
+use Rattle.roundtrip.specs.Back.{Says, GivesBack, WritesAgain}
 use Rattle.roundtrip.proofs.Drawn.{fitting}
 use Rattle.roundtrip.proofs.RoundTrip.{table-back, writable-fits}
 
@@ -111,12 +111,7 @@ pub read-again : (s : List ℕ) (f : Bool) (v : ℕ) (m : Message) → readMessa
     → GivesBack (written f v (contentOf s m)) f v (contentOf s m)
 read-again s f v m e six = table-back f v (contentOf s m) (writable-fits s f v m (read-writes s f v m e six))
 
--- Octets that the tables draw, read and written again, are the same octets: the reading is a message, which can be written, and its octets are these.
-abbrev pub WritesAgain : List ℕ → Reading → Type 0
-WritesAgain s (Reads f v m) = (writable s f v m ≡ true) × (octetsWritten s f v m ≡ s)
-WritesAgain s (Unreadable fault) = ⊥
-WritesAgain s TooLong = ⊥
-
+-- Octets that the tables draw, read and written again, are the same octets.
 pub same-octets : (f : Bool) (v : ℕ) (c : Content) → fits f v c ≡ true → WritesAgain (written f v c) (readMessage (written f v c))
 same-octets f v c e = go (readMessage (written f v c)) refl (table-back f v c e)
   where

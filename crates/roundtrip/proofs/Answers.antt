@@ -65,20 +65,20 @@ module _ (s : List ℕ) where
   reading-thirteen =
       number-is 13 (not (eqb (faultRead (readMessage s)) 0)) (tested .thirteen ∙ ap (λ (n : ℕ). not (eqb n 0)) (sym (reading-numbered s .1)))
 
-  pub fault-one : (faultRead (readMessage s) ≡ 1) ↔ (not (tooLong s) && tooShort s ≡ true)
-  fault-one = fault-is 1 _ (tested .one)
+  pub reading-fault-one : (faultRead (readMessage s) ≡ 1) ↔ (not (tooLong s) && tooShort s ≡ true)
+  reading-fault-one = fault-is 1 _ (tested .one)
 
   -- 2 exactly for another discriminator, where neither holds;
-  pub fault-two : (faultRead (readMessage s) ≡ 2) ↔ (not (tooLong s) && not (tooShort s) && not (ours s) ≡ true)
-  fault-two = fault-is 2 _ (tested .two)
+  pub reading-fault-two : (faultRead (readMessage s) ≡ 2) ↔ (not (tooLong s) && not (tooShort s) && not (ours s) ≡ true)
+  reading-fault-two = fault-is 2 _ (tested .two)
 
   -- 3 exactly for a type without a table, where none of these holds;
-  pub fault-three : (faultRead (readMessage s) ≡ 3) ↔ (not (tooLong s) && not (tooShort s) && ours s && not (typed s) ≡ true)
-  fault-three = fault-is 3 _ (tested .three)
+  pub reading-fault-three : (faultRead (readMessage s) ≡ 3) ↔ (not (tooLong s) && not (tooShort s) && ours s && not (typed s) ≡ true)
+  reading-fault-three = fault-is 3 _ (tested .three)
 
   -- 4 exactly where rule 3 finds a fault, where none of these holds.
-  pub fault-four : (faultRead (readMessage s) ≡ 4) ↔ (not (tooLong s) && not (tooShort s) && ours s && typed s && ruleThree s ≡ true)
-  fault-four = fault-is 4 _ (tested .four)
+  pub reading-fault-four : (faultRead (readMessage s) ≡ 4) ↔ (not (tooLong s) && not (tooShort s) && ours s && typed s && ruleThree s ≡ true)
+  reading-fault-four = fault-is 4 _ (tested .four)
 
   -- 0 exactly where nothing of all this holds.
   pub reading-nought : (readingNumber (readMessage s) ≡ 0) ↔ (not (tooLong s) && not (tooShort s) && ours s && typed s && not (ruleThree s) ≡ true)
