@@ -14,10 +14,9 @@ use Rattle.fitness.specs.Fitness.{Fitness, consistentBy}
 use Rattle.fitness.specs.First.{firstFitness}
 use Rattle.transitions.specs.declared.Send.{Send}
 use Rattle.transitions.specs.declared.Send.the-variants.{Nothing}
-use Rattle.transitions.specs.declared.Taken.{Taken}
 use Rattle.transitions.specs.declared.Decision.{Decision}
 use Rattle.transitions.specs.declared.Decision.the-variants.{Take, NoStep, Ignore, Report, TellStatus, SetParameters}
-use Rattle.transitions.specs.Table.{Row, stepTable, decidedBy}
+use Rattle.transitions.specs.Table.{Row, stepTable}
 use Rattle.transitions.proofs.Sound.{Sound, document-01}
 use Rattle.transitions.proofs.Decided.{OfTaken, decided-few}
 use Rattle.call.specs.declared.Due.{Due}

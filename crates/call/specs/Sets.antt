@@ -3,7 +3,6 @@ use Prim.Native.Nat.{ℕ}
 use mathlib.Core.List.{List}
 use Rattle.context.specs.declared.Context.{Context}
 use Rattle.transitions.specs.Table.{Row, stepTable, decidedBy, setBy}
-use Rattle.call.specs.declared.Event.{Event}
 use Rattle.call.specs.declared.Seen.{Seen}
 use Rattle.call.specs.declared.Due.{Due}
 use Rattle.call.specs.declared.Due.the-variants.{Steps, Ignored, Reported, Refused}

@@ -1,5 +1,4 @@
 -- Any two outcomes that a public contract of this crate allows coincide.
-use Prim.Native.Nat.{ℕ}
 use mathlib.Core.Path.{_≡_}
 use Rattle.octets.proofs.Coincide.{coincide}
 use Rattle.context.specs.declared.Context.{Context}

@@ -20,7 +20,7 @@ use Rattle.reply.specs.Reply.{replyOf}
 use Rattle.reply.proofs.Fits.{reply-short}
 use Rattle.radio.specs.declared.Happened.{Happened}
 use Rattle.radio.specs.Step.{dueTo, reactedTo, Reaction, refused, reacted, stepOf}
-use Rattle.radio.proofs.Range.{InRange, refused-most}
+use Rattle.radio.proofs.Range.{refused-most}
 use Rattle.radio.proofs.Reacting.{of-step, react-fit}
 
 -- Whatever is due keeps what the answers promise.

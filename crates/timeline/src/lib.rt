@@ -12,6 +12,7 @@ mod survey;
 use band::Extent;
 use band::draw_bands;
 use band::measure;
+use drawing::write_form;
 use filing::close_file;
 use filing::create_file;
 use head::draw_head;
@@ -108,11 +109,18 @@ fn tell_drawn(path: &[u8], drawn: Extent) {
         b" entry drawn",
         b" entries drawn",
     );
+    tell_rest(drawn);
+}
+
+fn tell_rest(drawn: Extent) {
     if drawn.drawn < drawn.total {
         let rest = std::num::wrapping_sub_usize(drawn.total, drawn.drawn);
-        tell(b", and ");
-        write_count(STDOUT_FILENO, rest, b" not", b" not");
-        tell(b": the picture would grow too long");
+        write_form(
+            STDOUT_FILENO,
+            b", and # not: the picture would grow too long\n",
+            &[rest as u64],
+        );
+        return;
     }
     tell(b"\n");
 }

@@ -1,12 +1,11 @@
 -- What sound rows decide.
 use Prim.Native.Nat.{ℕ}
-use mathlib.Core.Path.{_≡_, refl, sym}
+use mathlib.Core.Path.{_≡_, sym}
 use mathlib.Core.List.{List}
-use mathlib.Core.Bool.{Bool, true, false, cond, not, _||_}
+use mathlib.Core.Bool.{true, false, cond}
 use lib.Dec.{eqb, leb}
 use borrow.Author.Tests.{not-true}
 use Rattle.octets.proofs.Choice.{never}
-use Rattle.codes.specs.declared.state.State.{State}
 use Rattle.codes.specs.declared.state.State.the-variants.{U0}
 use Rattle.context.specs.declared.Context.{Context}
 use Rattle.timer.specs.Timers.{isOn, timerNumber, runningAmong}
@@ -18,7 +17,7 @@ use Rattle.transitions.specs.declared.Taken.{Taken}
 use Rattle.transitions.specs.declared.Decision.{Decision}
 use Rattle.transitions.specs.declared.Decision.the-variants.{Take, NoStep, Ignore, Report, TellStatus, SetParameters}
 use Rattle.transitions.specs.Table.{Row, timersAfter, decidedBy}
-use Rattle.transitions.proofs.Every.{Test, decided-holds}
+use Rattle.transitions.proofs.Every.{decided-holds}
 use Rattle.transitions.proofs.Sound.{keepsFit, setsFresh, rightly, setsRightly, atMost, isPlain, sendsPlain, Sound}
 
 -- What holds of a row that is taken; the other decisions take none.

@@ -1,7 +1,7 @@
 -- Where no two effects of a row are of a kind, none hides another: each of them is in what is taken.
 use mathlib.Core.Path.{_≡_, refl, sym}
 use mathlib.Core.List.{List, [], _∷_}
-use mathlib.Core.Bool.{Bool, true, false, cond, not, _&&_, _||_}
+use mathlib.Core.Bool.{Bool, true, false, cond, not, _||_}
 use lib.Dec.{eqb}
 use borrow.Author.Tests.{not-true}
 use Rattle.octets.proofs.Choice.{never}

@@ -1,6 +1,6 @@
 -- A type that is not of table 9.1 is reported with 97 in every state but U0, by every table whose rows of messages are of table 9.1's types.
 use Prim.Native.Nat.{ℕ}
-use mathlib.Core.Path.{_≡_, refl, sym, ap, _∙_}
+use mathlib.Core.Path.{_≡_, refl, ap, _∙_}
 use mathlib.Core.List.{List, [], _∷_, _++_}
 use mathlib.Core.Bool.{Bool, true, false, _&&_}
 use Rattle.octets.specs.Rows.{rows}

@@ -1,7 +1,7 @@
 -- What an event does not carry has no effect on its step.
 use Prim.Native.Nat.{ℕ}
 use mathlib.Core.Path.{_≡_, refl, sym}
-use mathlib.Core.Bool.{Bool, true, false, not, _||_}
+use mathlib.Core.Bool.{Bool, true, false, _||_}
 use mathlib.Core.List.{List, []}
 use lib.Dec.{eqb}
 use borrow.Author.Tests.{eqb-true}

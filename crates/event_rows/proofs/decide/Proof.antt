@@ -1,6 +1,5 @@
 -- `decide` meets its contract: a message by its type, any other event by its number.
 use borrow.Author.Needs.{needs}
-use mathlib.Core.Path.{sym}
 use Rattle.transitions.proofs.InState.{no-message}
 use Rattle.event_rows.proofs.decide.Statement.{statement}
 use Rattle.event_rows.proofs.decide.Tie as tie

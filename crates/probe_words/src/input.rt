@@ -2,7 +2,7 @@
 ghost use mathlib.Core.Path.{_≡_};
 ghost use Prim.Native.Nat.{_+_, _≤_};
 ghost use lib.ListN.{length};
-use crate::probe::answer_line;
+use crate::answer::answer_line;
 use fields::malformed;
 use saying::flush;
 use text::output::Output;

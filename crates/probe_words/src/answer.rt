@@ -1,5 +1,4 @@
-// The word `probe`: commands on standard input, a line each, answered by a line each. A further command is a crate of its own with a function of the same
-// shape as `answer_read`, and a test here.
+// One line of the line protocol. A further command is a crate of its own with a function of the same shape as `answer_read`, and a test here.
 use fields::malformed;
 use judge_command::answer_judge;
 use message_command::read_command::answer_read;
