@@ -24,12 +24,13 @@ use Rattle.reply.specs.Reply.{replyOf, putOf}
 use Rattle.reply.proofs.Fits.{put-is-reply}
 use Rattle.received.specs.Due.{dueOf}
 use Rattle.received.proofs.Rules.{every-due}
+use Rattle.step_arguments.specs.Arguments.{outOfRange}
 use Rattle.radio.specs.declared.Happened.{Happened}
 use Rattle.radio.specs.declared.Outcome.{Outcome}
 use Rattle.radio.specs.declared.Stepped.{Stepped}
 use Rattle.radio.specs.declared.Told.{Told}
 use Rattle.radio.specs.declared.Told.the-variants.{Is, NoEvent}
-use Rattle.radio.specs.Step.{eventOf, toldDue, dueTo, reactedTo, outOfRange, Reaction, refused, reacted, stepOf, takenOf, refusalOf, shown}
+use Rattle.radio.specs.Step.{eventOf, toldDue, dueTo, reactedTo, Reaction, refused, reacted, stepOf, takenOf, refusalOf, shown}
 use Rattle.radio.proofs.Numbers.{IsOf, event-of-number}
 use Rattle.radio.proofs.Range.{InRange, in-range, value-most}
 
@@ -62,8 +63,8 @@ told-fit n v r h = go (eventOf n v r) (event-of-number n v r)
     go NoEvent p = tt
 
 -- A step from a fit context ends in a fit one.
-pub react-fit : (identity : List ℕ) (x : Context) (h : Happened) (s : List ℕ) (key : ℕ) → fitOf x ≡ true → outOfRange key (length identity) h ≡ false
-    → fitOf (reactedTo identity x h s .context) ≡ true
+pub react-fit : (identity : List ℕ) (x : Context) (h : Happened) (s : List ℕ) (key : ℕ) → fitOf x ≡ true
+    → outOfRange key (length identity) (h .number) (h .value) (h .mode) ≡ false → fitOf (reactedTo identity x h s .context) ≡ true
 unfolding reactedTo dueTo
 react-fit identity x h s key fit range =
     settled-fit x fit _

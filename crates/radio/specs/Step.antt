@@ -1,9 +1,9 @@
 -- Document 01, "Answer numbers": the step as the host has it, its tests in their order, and what it answers and writes.
 use Prim.Native.Nat.{ℕ}
 use mathlib.Core.List.{List, [], _∷_}
-use mathlib.Core.Bool.{Bool, cond, not, _&&_, _||_}
+use mathlib.Core.Bool.{cond, not}
 use lib.ListN.{length}
-use lib.Dec.{eqb, ltb}
+use lib.Dec.{eqb}
 use Rattle.octets.specs.Rows.{rows}
 use Rattle.message.specs.declared.Reference.{Reference}
 use Rattle.context.specs.declared.Context.{Context}
@@ -33,6 +33,7 @@ use Rattle.call.specs.declared.Settled.{Settled}
 use Rattle.call.specs.Due.{settled}
 use Rattle.reply.specs.declared.Own.{Own}
 use Rattle.reply.specs.Reply.{replyOf, putOf}
+use Rattle.step_arguments.specs.Arguments.{argumentRefusal}
 use Rattle.radio.specs.declared.Happened.{Happened}
 use Rattle.radio.specs.declared.Outcome.{Outcome}
 use Rattle.radio.specs.declared.Stepped.{Stepped}
@@ -78,17 +79,6 @@ dueTo identity x h s = cond (eqb (h .number) 18) (dueOf identity x (h .mode) s) 
 unfoldable pub reactedTo : List ℕ → Context → Happened → List ℕ → Settled
 reactedTo identity x h s = settled x (dueTo identity x h s)
 
--- Answer 4: event number, mode, a transaction value over 6, ciphering key number over 7, own identity of 0 or over 8 octets;
--- mode and transaction value only where the event carries them.
-unfoldable pub outOfRange : ℕ → ℕ → Happened → Bool
-outOfRange key identity h =
-    ltb 7 key ||
-    (eqb identity 0 ||
-    (ltb 8 identity ||
-    ((eqb (h .number) 0 || ltb 18 (h .number)) ||
-    (eqb (h .number) 18 && ltb 1 (h .mode) ||
-    (eqb (h .number) 1 || (eqb (h .number) 2 || eqb (h .number) 10)) && ltb 6 (h .value)))))
-
 -- What a step comes to: answer number, context afterwards, actions, reply octets.
 pub record Reaction : Type 0 where
   pub answer : ℕ
@@ -110,19 +100,14 @@ reacted own identity s taken = record {
 }
 
 -- Why a step is refused, as the answer's number, and 0 where it is not; in two parts. The first: 7, the context is not fit.
+-- The second, whatever the context, goes by the step's arguments: 5, 6 and 4 (`argumentRefusal`).
 unfoldable pub fitnessRefusal : Context → ℕ
 fitnessRefusal x = cond (not (fitOf x)) 7 0
 
--- The second, whatever the context: 5, 6 and 4 in their order. `octets` is the length of the message received, `room` that of the lent reply buffer.
-unfoldable pub argumentRefusal : ℕ → ℕ → Happened → ℕ → ℕ → ℕ
-argumentRefusal key identity h octets room =
-    cond (ltb room 255) 5
-    (cond (eqb (h .number) 18 && ltb 251 octets) 6
-    (cond (outOfRange key identity h) 4 0))
-
 -- Test order for a step: 7, 5, 6, 4,
 unfoldable pub refusalOf : Context → ℕ → ℕ → Happened → ℕ → ℕ → ℕ
-refusalOf x key identity h octets room = cond (eqb (fitnessRefusal x) 0) (argumentRefusal key identity h octets room) (fitnessRefusal x)
+refusalOf x key identity h octets room =
+    cond (eqb (fitnessRefusal x) 0) (argumentRefusal key identity (h .number) (h .value) (h .mode) octets room) (fitnessRefusal x)
 
 -- then the rest.
 unfoldable pub stepOf : Own → List ℕ → ℕ → Context → Happened → List ℕ → Reaction

@@ -3,7 +3,7 @@
 ghost use mathlib.Core.Path.{_≡_};
 ghost use lib.ListN.{length};
 ghost use lib.Seq.{sets};
-ghost use Rattle.radio.specs.Step.{eventOf, dueTo, reactedTo, outOfRange, fitnessRefusal, argumentRefusal, refusalOf, shown, stepOf, takenOf};
+ghost use Rattle.radio.specs.Step.{eventOf, dueTo, reactedTo, fitnessRefusal, refusalOf, shown, stepOf, takenOf};
 use call::Due;
 use call::Event;
 use context::Context;
@@ -85,39 +85,12 @@ fn react(context: Context, identity: &[u8], happened: Happened, octets: &[u8]) -
     call_step::settle(context, due)
 }
 
-// Whether something is outside its range.
-fn is_out_of_range(key: u8, identity: usize, happened: Happened) -> bool
-    ensures { λ r. ⌜ r ≡ outOfRange key identity happened ⌝ }
-{
-    let number = happened.number;
-    let no_event = (number == 0) | (18 < number);
-    let no_mode = (number == 18) & (1 < happened.mode);
-    let no_value = ((number == 1) | ((number == 2) | (number == 10))) & (6 < happened.value);
-    (7 < key) | ((identity == 0) | ((8 < identity) | (no_event | (no_mode | no_value))))
-}
-
 // The first part of a refusal: 7 where the context is not fit, else 0.
 fn fitness_refusal(context: Context) -> u8
     ensures { λ r. ⌜ r ≡ fitnessRefusal context ⌝ }
 {
     if !fitness::is_fit(context) {
         return 7;
-    }
-    0
-}
-
-// The second part, whatever the context: 5, 6 and 4 in their order, else 0.
-fn argument_refusal(key: u8, identity: usize, happened: Happened, octets: usize, room: usize) -> u8
-    ensures { λ r. ⌜ r ≡ argumentRefusal key identity happened octets room ⌝ }
-{
-    if room < 255 {
-        return 5;
-    }
-    if (happened.number == 18) & (251 < octets) {
-        return 6;
-    }
-    if is_out_of_range(key, identity, happened) {
-        return 4;
     }
     0
 }
@@ -134,7 +107,18 @@ fn refusal(
     ensures { λ r. ⌜ r ≡ refusalOf context key identity happened octets room ⌝ }
 {
     let unfit = fitness_refusal(context);
-    let unsuited = argument_refusal(key, identity, happened, octets, room);
+    let number = happened.number;
+    let value = happened.value;
+    let mode = happened.mode;
+    let unsuited = step_arguments::argument_refusal(
+        key,
+        identity,
+        number,
+        value,
+        mode,
+        octets,
+        room,
+    );
     if unfit != 0 {
         return unfit;
     }

@@ -24,9 +24,10 @@ use Rattle.call.specs.Events.{seenOf}
 use Rattle.call.specs.Step.{ignored, noStep, carriedOut, stepBy}
 use Rattle.reply.specs.declared.Own.{Own}
 use Rattle.reply.specs.Reply.{replyOf}
+use Rattle.step_arguments.specs.Arguments.{outOfRange, argumentRefusal}
 use Rattle.radio.specs.declared.Told.{Told}
 use Rattle.radio.specs.declared.Told.the-variants.{Is, NoEvent}
-use Rattle.radio.specs.Step.{events, eventOf, toldDue, dueTo, reactedTo, outOfRange, argumentRefusal, refusalOf, reacted, stepOf}
+use Rattle.radio.specs.Step.{events, eventOf, toldDue, dueTo, reactedTo, refusalOf, reacted, stepOf}
 use Rattle.log.specs.Layout.{carriesCall, noReference}
 use Rattle.verdict.specs.Table.{Event, stepped}
 use Rattle.verdict.specs.Entries.{callReference, carriedBy}

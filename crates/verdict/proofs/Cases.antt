@@ -15,7 +15,8 @@ use Rattle.reply.specs.declared.Own.{Own}
 use Rattle.reply.specs.Reply.{replyOf}
 use Rattle.received.specs.Received.{sameOctets}
 use Rattle.received.specs.Due.{dueOf}
-use Rattle.radio.specs.Step.{eventOf, toldDue, dueTo, reactedTo, outOfRange, fitnessRefusal, argumentRefusal, refusalOf, stepOf}
+use Rattle.step_arguments.specs.Arguments.{settingsOut, outOfRange, argumentRefusal}
+use Rattle.radio.specs.Step.{eventOf, toldDue, dueTo, reactedTo, fitnessRefusal, refusalOf, stepOf}
 use Rattle.log_number.specs.Number.{joined, groupsAt, numberAt, upTo}
 use Rattle.log.specs.Layout.{carriesCall}
 use Rattle.version.specs.Version.{tableOf, greatestEvent, greatestState, greatestActions}
@@ -24,7 +25,7 @@ use Rattle.table.specs.Judge.{narrow, turn, judgeFrom, judge}
 use Rattle.table.specs.Reading.{entriesIn, entries}
 use Rattle.table.specs.OneTimer.{judgeOne}
 use Rattle.verdict.specs.Table.{parametersNumber, agree}
-use Rattle.verdict.specs.Judge.{settingsOut, versionJudged, judgeOf, answerNumber, answerValues}
+use Rattle.verdict.specs.Judge.{versionJudged, judgeOf, answerNumber, answerValues}
 
 -- Settings in range; none of these logs asks for what they are.
 abbrev own : Own

@@ -10,7 +10,8 @@ use Rattle.context.specs.declared.Context.{Context}
 use Rattle.fitness.specs.First.{fitOf}
 use Rattle.fitness.proofs.First.{cleared-fit}
 use Rattle.reply.specs.declared.Own.{Own}
-use Rattle.radio.specs.Step.{argumentRefusal, refusalOf, Reaction, stepOf}
+use Rattle.step_arguments.specs.Arguments.{argumentRefusal}
+use Rattle.radio.specs.Step.{refusalOf, Reaction, stepOf}
 use Rattle.radio.proofs.Answers.{step-honest, step-keeps-fit}
 use Rattle.version.specs.declared.Table.{Table}
 use Rattle.table.specs.Log.{Log, Entry, begin}

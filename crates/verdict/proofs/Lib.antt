@@ -8,4 +8,3 @@ pub mod Recorder
 pub mod Recordable
 pub mod Start
 pub mod Cases
-pub mod Settings

@@ -10,6 +10,7 @@ use lib.ListN.{length, take}
 use lib.Seq.{length-take-le}
 use Rattle.context.specs.declared.Context.{Context}
 use Rattle.reply.specs.declared.Own.{Own}
+use Rattle.step_arguments.specs.Arguments.{settingsOut}
 use Rattle.version.specs.declared.Table.{Table}
 use Rattle.version.specs.declared.Table.the-variants.{First}
 use Rattle.version.specs.Version.{versionOf, tableOf, longest}
@@ -35,7 +36,7 @@ use Rattle.table.proofs.Complete.{recorded-explained, written-accepted}
 use Rattle.verdict.specs.declared.Judged.the-variants.{Accepted}
 use Rattle.verdict.specs.Table.{steps, joining, recordable}
 use Rattle.verdict.specs.Entries.{carriedBy, meantBy, carriedEntry, writer}
-use Rattle.verdict.specs.Judge.{settingsOut, versionJudged, judgedOf, judgeOf}
+use Rattle.verdict.specs.Judge.{versionJudged, judgedOf, judgeOf}
 use Rattle.verdict.specs.Demand.{Begins}
 use Rattle.verdict.specs.Host.{Recording}
 use Rattle.verdict.proofs.Laws.{steps-laws}

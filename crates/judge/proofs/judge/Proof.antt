@@ -9,11 +9,11 @@ use Rattle.judge.proofs.judge.Statement.{statement}
 use Rattle.judge.proofs.judge.Tie as tie
 
 -- What the function was told, from the place behind the test of its settings.
-abbrev start : tie.After-is-out-of-range → tie.Start
+abbrev start : tie.After-are-settings-out → tie.Start
 start c = c .before .before .before
 
-is-out-of-range-requires : tie.Need-is-out-of-range-requires
-is-out-of-range-requires c κs = search needs
+are-settings-out-requires : tie.Need-are-settings-out-requires
+are-settings-out-requires c κs = search needs
 
 returns : tie.Need-returns
 returns c =
@@ -25,7 +25,7 @@ returns-2 c =
     let short = c .before in
     let said = start (short .before) in
     out-of-range (said .args .own) (said .args .identity .now) (said .args .log .now) (ltb-false _ _ (short .if1 .left))
-    (sym (short .before .is-out-of-range .ensures) ∙ c .if2 .taken)
+    (sym (short .before .are-settings-out .ensures) ∙ c .if2 .taken)
 
 walk-requires : tie.Need-walk-requires
 walk-requires c κs = search needs
@@ -44,13 +44,13 @@ returns-3 c =
     let said = start (short .before) in
     c .answer .ensures ∙ ap answerOf (walking .walk .ensures)
     ∙ walk-answers (said .args .own) (said .args .identity .now) (said .args .log .now) (ltb-false _ _ (short .if1 .left))
-    (sym (short .before .is-out-of-range .ensures) ∙ ranged .if2 .left)
+    (sym (short .before .are-settings-out .ensures) ∙ ranged .if2 .left)
 
 pub judge-spec : {M : Type 1} → statement M
 judge-spec =
     tie.close
     (tie.spec
-    is-out-of-range-requires
+    are-settings-out-requires
     returns
     returns-2
     walk-requires
