@@ -28,7 +28,7 @@ use Rattle.step_arguments.specs.Arguments.{outOfRange, argumentRefusal}
 use Rattle.radio.specs.declared.Told.{Told}
 use Rattle.radio.specs.declared.Told.the-variants.{Is, NoEvent}
 use Rattle.radio.specs.Step.{events, eventOf, toldDue, dueTo, reactedTo, refusalOf, reacted, stepOf}
-use Rattle.log.specs.Layout.{carriesCall, noReference}
+use Rattle.log_data.specs.Reading.{carriesCall, noReference}
 use Rattle.verdict.specs.Table.{Event, stepped}
 use Rattle.verdict.specs.Entries.{callReference, carriedBy}
 

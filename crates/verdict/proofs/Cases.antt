@@ -18,9 +18,11 @@ use Rattle.received.specs.Due.{dueOf}
 use Rattle.step_arguments.specs.Arguments.{settingsOut, outOfRange, argumentRefusal}
 use Rattle.radio.specs.Step.{eventOf, toldDue, dueTo, reactedTo, fitnessRefusal, refusalOf, stepOf}
 use Rattle.log_number.specs.Number.{joined, groupsAt, numberAt, upTo}
-use Rattle.log.specs.Layout.{carriesCall}
+use Rattle.log_data.specs.Reading.{carriesCall, callAt, receivedAt, dataAt}
 use Rattle.version.specs.Version.{tableOf, greatestEvent, greatestState, greatestActions}
-use Rattle.log.specs.Reading.{smallAt, runAt, callAt, receivedAt, dataAt, claimAt, restAt, entryAt}
+use Rattle.log_field.specs.Reading.{smallAt, runAt}
+use Rattle.log_claim.specs.Reading.{claimAt}
+use Rattle.log.specs.Reading.{restAt, entryAt}
 use Rattle.table.specs.Judge.{narrow, turn, judgeFrom, judge}
 use Rattle.table.specs.Reading.{entriesIn, entries}
 use Rattle.table.specs.OneTimer.{judgeOne}

@@ -23,8 +23,9 @@ use Rattle.radio.proofs.Answers.{Honest, step-honest, step-short}
 use Rattle.version.specs.declared.Table.{Table}
 use Rattle.version.specs.declared.Table.the-variants.{First}
 use Rattle.version.specs.Version.{greatestEvent, greatestState, greatestActions, longest}
-use Rattle.log.specs.declared.Reference.{Reference}
-use Rattle.log.specs.Layout.{Field, number, octets, allInRange, carriesCall, dataFields, claimFields, fields, ranged}
+use Rattle.log_data.specs.declared.Reference.{Reference}
+use Rattle.log_data.specs.Reading.{carriesCall}
+use Rattle.log.specs.Layout.{Field, number, octets, allInRange, dataFields, claimFields, fields, ranged}
 use Rattle.recorder.specs.Recording.{added, recordAnswer, answerNumber}
 use Rattle.recorder.specs.declared.Recorded.{Recorded}
 use Rattle.recorder.specs.declared.Recorded.the-variants.{Used, OutOfRange, TooLong, NoRoom}

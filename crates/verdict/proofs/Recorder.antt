@@ -19,7 +19,8 @@ use Rattle.version.proofs.Tables.{number-small}
 use Rattle.log_number.specs.Number.{grouped, groups, groupsAt, joined, numberAt}
 use Rattle.log_number.specs.declared.Number.the-variants.{Value}
 use Rattle.log_number.proofs.Meaning.{number-reads}
-use Rattle.log.specs.Layout.{Meant, carriesCall, ranged, kept, versionBytes, entries as layout, whole}
+use Rattle.log_data.specs.Reading.{carriesCall}
+use Rattle.log.specs.Layout.{Meant, ranged, kept, versionBytes, entries as layout, whole}
 use Rattle.log.proofs.ReadBack.{kept-written, kept-ranged}
 use Rattle.recorder.specs.Recording.{Records, Begins as LogBegins, soFar}
 use Rattle.recorder.specs.declared.Recorded.the-variants.{Used}
