@@ -29,7 +29,7 @@ use Rattle.radio.specs.declared.Told.{Told}
 use Rattle.radio.specs.declared.Told.the-variants.{Is, NoEvent}
 use Rattle.radio.specs.Step.{events, eventOf, toldDue, dueTo, reactedTo, refusalOf, reacted, stepOf}
 use Rattle.log_data.specs.Reading.{carriesCall, noReference}
-use Rattle.verdict.specs.Table.{Event, stepped}
+use Rattle.verdict.specs.Table.{GivenEvent, stepped}
 use Rattle.verdict.specs.Entries.{callReference, carriedBy}
 
 -- ---- events and messages
@@ -90,7 +90,7 @@ call-not-received n c = go (eqb n 18) refl
     go true e = let q : n ≡ 18 = eqb-true n 18 e in never (rw q at c)
     go false e = refl
 
-module _ (own : Own) (identity : List ℕ) (x : Context) (e : Event) where
+module _ (own : Own) (identity : List ℕ) (x : Context) (e : GivenEvent) where
   abbrev number : ℕ
   number = e .happened .number
 

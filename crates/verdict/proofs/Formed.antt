@@ -25,7 +25,7 @@ use Rattle.table.specs.Reading.{onRead, entriesIn, entries, written as writtenB
 use Rattle.table.proofs.Reading.{entries-written}
 use Rattle.table.proofs.Complete.{as-log-well-formed}
 use Rattle.verdict.specs.Table.{steps}
-use Rattle.verdict.specs.Entries.{entryOf, meantBy, readOf, reader, writer}
+use Rattle.verdict.specs.Entries.{entryMeant, meantBy, readOf, reader, writer}
 use Rattle.verdict.specs.Formed.{Readable, AllInRange, Laid}
 use Rattle.verdict.proofs.Recorder.{AllRanged, carriedAll, meantAll, carried-written, carried-fine, version-reads}
 
@@ -88,7 +88,7 @@ module _ (table : Table) (own : Own) (identity s : List ℕ) where
 
   abbrev asEntries : List Meant → List (Entry (steps table own identity))
   asEntries [] = []
-  asEntries (m ∷ ms) = entryOf table own identity m ∷ asEntries ms
+  asEntries (m ∷ ms) = entryMeant table own identity m ∷ asEntries ms
 
   as-meant : (ms : List Meant) → meantAll table own identity (asEntries ms) ≡ ms
   as-meant [] = refl

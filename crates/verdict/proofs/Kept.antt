@@ -18,10 +18,10 @@ use Rattle.table.specs.Log.{Log, Entry, begin}
 use Rattle.table.specs.Points.{momentAfter}
 use Rattle.table.specs.Recorded.{Still}
 use Rattle.table.proofs.Points.{always}
-use Rattle.verdict.specs.Table.{Event, stepped, steps, recordable}
+use Rattle.verdict.specs.Table.{GivenEvent, stepped, steps, recordable}
 
 -- A step that is handed a longer reply buffer is the same step.
-pub any-room : (own : Own) (identity : List ℕ) (room : ℕ) (x : Context) (e : Event) → 255 ≤ room
+pub any-room : (own : Own) (identity : List ℕ) (room : ℕ) (x : Context) (e : GivenEvent) → 255 ≤ room
     → stepOf own identity room x (e .happened) (e .octets) ≡ stepped own identity x e
 unfolding stepOf refusalOf argumentRefusal
 any-room own identity room x e h = rw (le-ltb room 255 h)
@@ -29,7 +29,7 @@ any-room own identity room x e h = rw (le-ltb room 255 h)
 -- ---- every context come to is fit
 
 module _ (table : Table) (own : Own) (identity : List ℕ) where
-  pub fit-after : (x : Context) (e : Event) → fitOf x ≡ true → fitOf (steps table own identity .after x e) ≡ true
+  pub fit-after : (x : Context) (e : GivenEvent) → fitOf x ≡ true → fitOf (steps table own identity .after x e) ≡ true
   fit-after x e fit = step-keeps-fit own identity 255 x (e .happened) (e .octets) fit
 
   pub always-fit : (n : ℕ) (log : Log (Entry (steps table own identity))) → fitOf (momentAfter (steps table own identity) n (begin (steps table own identity)) log .context) ≡ true

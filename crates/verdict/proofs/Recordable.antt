@@ -31,7 +31,7 @@ use Rattle.recorder.specs.declared.Recorded.{Recorded}
 use Rattle.recorder.specs.declared.Recorded.the-variants.{Used, OutOfRange, TooLong, NoRoom}
 use Rattle.table.specs.Log.{Entry}
 use Rattle.table.specs.Recorded.{Move, entryOf}
-use Rattle.verdict.specs.Table.{Event, parametersNumber, claimOf, stepped, steps, recordable}
+use Rattle.verdict.specs.Table.{GivenEvent, parametersNumber, claimOf, stepped, steps, recordable}
 use Rattle.verdict.specs.Entries.{meantBy}
 
 -- ---- fields in range
@@ -98,7 +98,7 @@ parameters-most p =
 -- ---- the step
 
 -- The entry that the recorder is told of after a step: so many milliseconds since the entry before, the event, and what the step gave.
-abbrev pub entryAfter : (table : Table) (own : Own) (identity : List ℕ) → Context → Event → ℕ → Entry (steps table own identity)
+abbrev pub entryAfter : (table : Table) (own : Own) (identity : List ℕ) → Context → GivenEvent → ℕ → Entry (steps table own identity)
 entryAfter table own identity x e delta = record { delta = delta; event = e; claim = claimOf (stepped own identity x e) }
 
 -- It is the entry that `specs/Host` has a host tell of.
@@ -106,7 +106,7 @@ pub entry-as-told : (table : Table) (own : Own) (identity : List ℕ) (x : Conte
     → entryAfter table own identity x (m .event) (waited + m .wait) ≡ entryOf (steps table own identity) x waited m
 entry-as-told table own identity x waited m = refl
 
-module _ (own : Own) (identity : List ℕ) (x : Context) (e : Event) (answered : recordable own identity x e ≡ true) where
+module _ (own : Own) (identity : List ℕ) (x : Context) (e : GivenEvent) (answered : recordable own identity x e ≡ true) where
   abbrev refusal : ℕ
   refusal = refusalOf x (own .key) (length identity) (e .happened) (length (e .octets)) 255
 

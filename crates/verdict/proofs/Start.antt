@@ -22,13 +22,13 @@ use Rattle.table.specs.Log.{Log, Entry, Moment, begin, timerAfter, timeOf, next
 use Rattle.table.specs.Points.{momentAfter}
 use Rattle.table.specs.Start.{NoneAnew}
 use Rattle.table.proofs.Start.{started-by-row}
-use Rattle.verdict.specs.Table.{Event, stepped, steps}
+use Rattle.verdict.specs.Table.{GivenEvent, stepped, steps}
 use Rattle.verdict.specs.Start.{setsTimer}
 use Rattle.verdict.proofs.Kept.{always-fit}
 
 -- ---- no row sets anew a timer that runs
 
-step-right : (own : Own) (identity : List ℕ) (x : Context) (e : Event) → fitOf x ≡ true
+step-right : (own : Own) (identity : List ℕ) (x : Context) (e : GivenEvent) → fitOf x ≡ true
     → rightly (setsTimer own identity x e) (runs x) (runs (stepped own identity x e .context)) ≡ true
 unfolding setsTimer stepOf reactedTo
 step-right own identity x e fit = go (eqb (refusalOf x (own .key) (length identity) (e .happened) (length (e .octets)) 255) 0)
@@ -54,7 +54,7 @@ where-none set before after r z n =
     eqb-true after before (one-of (eqb after 0) _ q (ne-eqb after 0 n))
 
 -- "no row turns on a timer that runs": in every fit context, so in every context come to.
-pub none-anew : (table : Table) (own : Own) (identity : List ℕ) (x : Context) (e : Event) → fitOf x ≡ true
+pub none-anew : (table : Table) (own : Own) (identity : List ℕ) (x : Context) (e : GivenEvent) → fitOf x ≡ true
     → NoneAnew (steps table own identity) (setsTimer own identity x e) x e
 none-anew table own identity x e fit =
     let r = step-right own identity x e fit in

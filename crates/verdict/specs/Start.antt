@@ -8,9 +8,9 @@ use Rattle.context.specs.declared.Context.{Context}
 use Rattle.call.specs.Sets.{setByDue}
 use Rattle.reply.specs.declared.Own.{Own}
 use Rattle.radio.specs.Step.{dueTo, refusalOf}
-use Rattle.verdict.specs.Table.{Event}
+use Rattle.verdict.specs.Table.{GivenEvent}
 
 -- Its number: none where the step is refused, else that which is set by what is due.
-unfoldable pub setsTimer : Own → List ℕ → Context → Event → ℕ
+unfoldable pub setsTimer : Own → List ℕ → Context → GivenEvent → ℕ
 setsTimer own identity x e =
     cond (eqb (refusalOf x (own .key) (length identity) (e .happened) (length (e .octets)) 255) 0) (setByDue x (dueTo identity x (e .happened) (e .octets))) 0
