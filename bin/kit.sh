@@ -39,3 +39,51 @@ find_emulator() {
     [ -x "$emulator" ] || emulator=$(command -v qemu-x86_64) || return 1
     for word in $(env | sed -n 's/^\(QEMU_[A-Za-z0-9_]*\)=.*/\1/p'); do unset "$word"; done
 }
+
+# prove_program CRATE: proves and builds a program and what it stands on. What the prover says goes to a file, whose name is left in `log`; standard error has one
+# line that moves on where it is a terminal, and else a line for each step.
+prove_program() {
+    mkdir -p "$here/target/log"
+    log=$here/target/$1.log
+    wanted=$(crates_of "$1")
+    # Below target/log rt keeps a word for each crate: `failed` from when it is begun, and another when it is proved.
+    for crate in $wanted; do rm -f "$here/target/log/$crate.res"; done
+    began=$(date +%s)
+    # rt waits for all that it started at once: more than one for each processor leaves none idle meanwhile.
+    (cd "$here" && RT_JOBS=${RT_JOBS:-$((3 * $(nproc 2>/dev/null || echo 1)))} exec rt check "$1") >"$log" 2>&1 &
+    prover=$!
+    trap 'kill "$prover" 2>/dev/null; exit 2' HUP INT TERM
+    while kill -0 "$prover" 2>/dev/null; do
+        tell_progress
+        sleep 1
+    done
+    trap - HUP INT TERM
+    wait "$prover"
+    ended=$?
+    tell_progress
+    [ ! -t 2 ] || echo >&2
+    return "$ended"
+}
+
+# tell_progress: how many of the `wanted` crates are proved, which are on, and since when.
+tell_progress() {
+    of=0 proved=0 on=
+    for crate in $wanted; do
+        of=$((of + 1))
+        word=
+        { read -r word <"$here/target/log/$crate.res"; } 2>/dev/null
+        case $word in
+        proved | built) proved=$((proved + 1)) ;;
+        failed) on="$on $crate" ;;
+        esac
+    done
+    line="heidezirkel: $proved of $of crates proved${on:+, now$on}"
+    since=$(($(date +%s) - began))
+    if [ -t 2 ]; then
+        # 76 characters and then clear to the end of the line: it must not break
+        printf '\r%.76s\033[K' "heidezirkel: $((since / 60)):$(printf %02d $((since % 60))), ${line#heidezirkel: }" >&2
+    elif [ "$line" != "${told:-}" ]; then
+        echo "$line ($since s)" >&2
+        told=$line
+    fi
+}

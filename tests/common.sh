@@ -1,4 +1,4 @@
-# What the tests share: where things are, the second program, and which probe commands the proved program has. Sourced by the tests, from any folder.
+# What the tests share: where things are, the second program, and the commands of the line protocol. Sourced by the tests, from any folder.
 set -u
 root=$(cd "$(dirname "${BASH_SOURCE[0]}")/.." && pwd)
 second=$root/second/target/release/second
@@ -11,12 +11,8 @@ build_second() {
   (cd "$root/second" && cargo build --release --offline --quiet)
 }
 
-# The command words that both programs have: all six but those of tests/not-yet.
-known_words() {
-  for word in read write step settings judge record; do
-    grep -qx "$word" "$root/tests/not-yet" || echo "$word"
-  done
-}
+# The command words of the line protocol, which both programs have.
+words="read write step settings judge record"
 
 # same_answers COMMANDS EXPECTED FOUND: compares line by line; tells the first commands whose answers differ.
 same_answers() {

@@ -1,64 +1,85 @@
--- What an answer says: it is 0 to 3; any but 0 keeps the context and has no actions, and any but 0 and 2 sends nothing. Actions are at most 63.
+-- What an answer says, of a step by any sound rows: it is 0 to 3; any but 0 keeps the context and has no actions, and any but 0 and 2 sends nothing.
+-- Actions are at most the rows' sum.
 use Prim.Native.Nat.{ℕ, _≤_}
 use mathlib.Core.Path.{_≡_, refl}
-use mathlib.Core.Bool.{Bool}
+use mathlib.Core.List.{List}
+use mathlib.Core.Bool.{true}
+use lib.Dec.{leb}
 use native.Mathlib.Omega.{arith}
 use borrow.Author.Tests.{leb-true}
 use Rattle.octets.proofs.Choice.{at-cond}
 use Rattle.codes.specs.Attributes.{parametersOf}
 use Rattle.context.specs.declared.Context.{Context}
-use Rattle.context.specs.Fit.{consistent}
+use Rattle.fitness.specs.Fitness.{Fitness, consistentBy}
+use Rattle.fitness.specs.First.{firstFitness}
 use Rattle.transitions.specs.declared.Send.{Send}
 use Rattle.transitions.specs.declared.Send.the-variants.{Nothing}
 use Rattle.transitions.specs.declared.Decision.{Decision}
 use Rattle.transitions.specs.declared.Decision.the-variants.{Take, NoStep, Ignore, Report, TellStatus, SetParameters}
-use Rattle.transitions.specs.Table.{decidedOf}
-use Rattle.transitions.proofs.Actions.{Few, decided-few}
+use Rattle.transitions.specs.Table.{Row, stepTable}
+use Rattle.transitions.proofs.Sound.{Sound, document-01}
+use Rattle.transitions.proofs.Decided.{OfTaken, decided-few}
+use Rattle.call.specs.declared.Due.{Due}
+use Rattle.call.specs.declared.Due.the-variants.{Steps, Ignored, Reported, Refused}
 use Rattle.call.specs.declared.Event.{Event}
 use Rattle.call.specs.declared.Seen.{Seen}
-use Rattle.call.specs.declared.Stepped.{Stepped}
+use Rattle.call.specs.declared.Settled.{Settled}
 use Rattle.call.specs.Events.{seenOf}
-use Rattle.call.specs.Step.{took, ignored, noStep, reportedWith, statusTold, parametersSet, carriedOut, stepValue}
+use Rattle.call.specs.Step.{took, ignored, noStep, reportedWith, statusTold, parametersSet, carriedOut, stepBy}
+use Rattle.call.specs.Due.{settledBy, settled}
 
-pub record Right (x : Context) (r : Stepped) : Type 0 where
+pub record Right (most : ℕ) (x : Context) (r : Settled) : Type 0 where
   pub numbered : r .answer ≤ 3
   pub kept : (r .answer ≡ 0 → ⊥) → r .context ≡ x
   pub still : (r .answer ≡ 0 → ⊥) → r .actions ≡ 0
   pub silent : (r .answer ≡ 0 → ⊥) → (r .answer ≡ 2 → ⊥) → r .sends ≡ Nothing
-  pub few : r .actions ≤ 63
+  pub few : r .actions ≤ most
 
-taken-right : (x y : Context) (actions : ℕ) (sends : Send) → actions ≤ 63 → Right x (took y actions sends)
-taken-right x y actions sends most = record {
-  numbered = omega arith;
-  kept = λ n. elim (n refl) [ ];
-  still = λ n. elim (n refl) [ ];
-  silent = λ n m. elim (n refl) [ ];
-  few = most;
-}
+module _ (fitness : Fitness) (most : ℕ) (x : Context) where
+  taken-right : (y : Context) (actions : ℕ) (sends : Send) → actions ≤ most → Right most x (took y actions sends)
+  taken-right y actions sends few = record {
+    numbered = omega arith;
+    kept = λ n. elim (n refl) [ ];
+    still = λ n. elim (n refl) [ ];
+    silent = λ n m. elim (n refl) [ ];
+    few = few;
+  }
 
-pub ignored-right : (x : Context) → Right x (ignored x)
-unfolding ignored
-ignored-right x = record { numbered = omega arith; kept = λ n. refl; still = λ n. refl; silent = λ n m. refl; few = omega arith }
+  ignored-right : Right most x (ignored x)
+  unfolding ignored
+  ignored-right = record { numbered = omega arith; kept = λ n. refl; still = λ n. refl; silent = λ n m. refl; few = omega arith }
 
-pub no-step-right : (x : Context) → Right x (noStep x)
-unfolding noStep
-no-step-right x = record { numbered = omega arith; kept = λ n. refl; still = λ n. refl; silent = λ n m. refl; few = omega arith }
+  no-step-right : Right most x (noStep x)
+  unfolding noStep
+  no-step-right = record { numbered = omega arith; kept = λ n. refl; still = λ n. refl; silent = λ n m. refl; few = omega arith }
 
-pub reported-right : (x : Context) (cause : ℕ) → Right x (reportedWith cause x)
-unfolding reportedWith
-reported-right x cause =
-    at-cond (Right x) (x .parameters .comm) _ _ (λ e. record { numbered = omega arith; kept = λ n. refl; still = λ n. refl; silent = λ n m. elim (m refl) [ ]; few = omega arith }) (λ e. ignored-right x)
+  reported-right : (cause : ℕ) → Right most x (reportedWith cause x)
+  unfolding reportedWith
+  reported-right cause =
+      at-cond (Right most x) (x .parameters .comm) _ _
+      (λ e. record { numbered = omega arith; kept = λ n. refl; still = λ n. refl; silent = λ n m. elim (m refl) [ ]; few = omega arith }) (λ e. ignored-right)
 
-carried-right : (x : Context) (d : Decision) (e : Seen) → Few d → Right x (carriedOut x d e)
-unfolding carriedOut statusTold parametersSet
-carried-right x (Take next actions sends stops sets) e f = taken-right x _ actions sends (leb-true actions 63 f)
-carried-right x NoStep e f = no-step-right x
-carried-right x Ignore e f = ignored-right x
-carried-right x (Report cause) e f = reported-right x cause
-carried-right x TellStatus e f = at-cond (Right x) (x .parameters .comm) _ _ (λ q. taken-right x x 0 _ (omega arith)) (λ q. ignored-right x)
-carried-right x SetParameters e f =
-    at-cond (Right x) (consistent (x .state) (parametersOf (e .attributes))) _ _ (λ q. taken-right x _ 0 Nothing (omega arith)) (λ q. reported-right x 98)
+  carried-right : (d : Decision) (e : Seen) → OfTaken (λ d. leb (d .actions) most ≡ true) d → Right most x (carriedOut fitness x d e)
+  unfolding carriedOut statusTold parametersSet
+  carried-right (Take d) e f = taken-right _ (d .actions) (d .sends) (leb-true (d .actions) most f)
+  carried-right NoStep e f = no-step-right
+  carried-right Ignore e f = ignored-right
+  carried-right (Report cause) e f = reported-right cause
+  carried-right TellStatus e f = at-cond (Right most x) (x .parameters .comm) _ _ (λ q. taken-right x 0 _ (omega arith)) (λ q. ignored-right)
+  carried-right SetParameters e f =
+      at-cond (Right most x) (consistentBy fitness (x .state) (parametersOf (e .attributes))) _ _ (λ q. taken-right _ 0 Nothing (omega arith)) (λ q. reported-right 98)
 
-pub step-right : (x : Context) (event : Event) → Right x (stepValue x event)
-unfolding stepValue
-step-right x event = carried-right x (decidedOf x (seenOf event .number) (seenOf event .code)) (seenOf event) (decided-few x (seenOf event .number) (seenOf event .code))
+  right-by : (table : List Row) → Sound fitness most table → (event : Event) → Right most x (stepBy fitness table x event)
+  unfolding stepBy
+  right-by table sound event = carried-right _ (seenOf event) (decided-few fitness most table sound x (seenOf event .number) (seenOf event .code))
+
+  settled-by : (table : List Row) → Sound fitness most table → (due : Due) → Right most x (settledBy fitness table x due)
+  unfolding settledBy
+  settled-by table sound (Steps event) = right-by table sound event
+  settled-by table sound Ignored = ignored-right
+  settled-by table sound (Reported cause) = reported-right cause
+  settled-by table sound Refused = no-step-right
+
+-- By document 01's rows.
+pub settled-right : (x : Context) (due : Due) → Right 63 x (settled x due)
+settled-right x = settled-by firstFitness 63 x stepTable document-01

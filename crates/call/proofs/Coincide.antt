@@ -1,16 +1,9 @@
 -- Any two outcomes that a public contract of this crate allows coincide.
-use Prim.Native.Nat.{ℕ}
 use mathlib.Core.Path.{_≡_}
 use Rattle.octets.proofs.Coincide.{coincide}
-use Rattle.context.specs.declared.Context.{Context}
-use Rattle.call.specs.declared.Due.{Due}
 use Rattle.call.specs.declared.Event.{Event}
-use Rattle.call.specs.declared.Stepped.{Stepped}
-use Rattle.call.specs.Due.{settled}
-use Rattle.call.specs.Step.{stepValue}
+use Rattle.call.specs.declared.Seen.{Seen}
+use Rattle.call.specs.Events.{seenOf}
 
-pub step-coincides : (x : Context) (event : Event) (a b : Stepped) → a ≡ stepValue x event → b ≡ stepValue x event → a ≡ b
-step-coincides x event a b = coincide (stepValue x event) a b
-
-pub settle-coincides : (x : Context) (due : Due) (a b : Stepped) → a ≡ settled x due → b ≡ settled x due → a ≡ b
-settle-coincides x due a b = coincide (settled x due) a b
+pub seen-event-coincides : (event : Event) (a b : Seen) → a ≡ seenOf event → b ≡ seenOf event → a ≡ b
+seen-event-coincides event a b = coincide (seenOf event) a b

@@ -1,39 +1,52 @@
--- A step keeps a context fit; an inconsistent SET PARAMETER is ignored; no row sets a timer that runs.
+-- A step by sound rows keeps a context fit, and clears it where U0 is entered; an inconsistent SET PARAMETER is ignored.
 use Prim.Native.Nat.{ℕ}
-use mathlib.Core.Path.{_≡_, refl, sym, ap, subst, _∙_}
-use mathlib.Core.Bool.{Bool, true, false, cond, not, _&&_, _||_}
-use lib.Dec.{eqb, leb}
-use borrow.Author.Tests.{not-true, eqb-true}
+use mathlib.Core.Path.{_≡_, refl, sym, subst}
+use mathlib.Core.List.{List}
+use mathlib.Core.Bool.{Bool, true, false, not, _&&_, _||_}
+use lib.Dec.{leb}
+use borrow.Author.Tests.{not-true}
 use Rattle.octets.proofs.Choice.{at-cond, never}
 use Rattle.codes.specs.declared.state.State.{State}
 use Rattle.codes.specs.declared.state.State.the-variants.{U0, U0p, U1, U2, U3, U4, U5, U6}
 use Rattle.codes.specs.declared.attributes.Parameters.{Parameters}
 use Rattle.codes.specs.Attributes.{parametersOf}
-use Rattle.message.specs.declared.Reference.{Reference}
-use Rattle.context.specs.declared.Timers.{Timers}
+use Rattle.message.specs.declared.Message.{Message}
+use Rattle.message.specs.declared.Message.the-variants.{
+  Connect,
+  GetStatus,
+  ImmediateSetup,
+  SetParameter,
+  Setup,
+  Status,
+  Termination,
+  TerminationReject,
+  TerminationRequest,
+}
 use Rattle.context.specs.declared.Context.{Context}
 use Rattle.context.specs.States.{same}
-use Rattle.context.specs.Context.{startRow, cleared}
-use Rattle.context.specs.Fit.{consistent, timersFit, isCleared, fitOf}
+use Rattle.context.specs.Context.{entering, cleared}
+use Rattle.fitness.specs.Fitness.{Fitness, consistentBy, timersFitBy, fitBy}
+use Rattle.fitness.specs.First.{firstFitness, consistent, fitOf}
 use Rattle.context.proofs.States.{same-state}
-use Rattle.context.proofs.Whole.{and-left, and-right, if-so, inStates, at-state, ofTimers, at-timers}
-use Rattle.context.proofs.Fit.{start-consistent, fit-consistent, fit-value, fit-cleared, fit-timers, fit-made, cleared-fit}
-use Rattle.transitions.specs.declared.Timer.{Timer}
-use Rattle.transitions.specs.declared.Timer.the-variants.{NoTimer, MmEst, Term, ConnReq, NoChannel}
-use Rattle.transitions.specs.declared.Send.{Send}
+use Rattle.context.proofs.Whole.{and-right, if-so}
+use Rattle.fitness.proofs.Fit.{fit-consistent, fit-value, fit-timers, fit-made}
+use Rattle.fitness.proofs.Sound.{entering-consistent, cleared-sound}
+use Rattle.transitions.specs.declared.Stores.{Stores}
+use Rattle.transitions.specs.declared.Stores.the-variants.{Nothing, ValueAndReference, ItsReference}
+use Rattle.transitions.specs.declared.Taken.{Taken}
 use Rattle.transitions.specs.declared.Decision.{Decision}
 use Rattle.transitions.specs.declared.Decision.the-variants.{Take, NoStep, Ignore, Report, TellStatus, SetParameters}
-use Rattle.transitions.specs.Table.{Row, stepTable, decidedOf}
-use Rattle.transitions.proofs.Every.{Test, inTable, decided-holds}
+use Rattle.transitions.specs.Table.{Row, stepTable, timersAfter, decidedBy}
+use Rattle.transitions.proofs.Sound.{Sound, document-01}
+use Rattle.transitions.proofs.Decided.{Keeps, decided-keeps}
+use Rattle.call.specs.declared.Due.{Due}
+use Rattle.call.specs.declared.Due.the-variants.{Steps, Ignored, Reported, Refused}
 use Rattle.call.specs.declared.Event.{Event}
-use Rattle.call.specs.declared.Stores.{Stores}
-use Rattle.call.specs.declared.Stores.the-variants.{Nothing, Call, CallReference}
+use Rattle.call.specs.declared.Event.the-variants.{Received}
 use Rattle.call.specs.declared.Seen.{Seen}
-use Rattle.call.specs.declared.Stepped.{Stepped}
-use Rattle.call.specs.Events.{seenOf}
+use Rattle.call.specs.declared.Settled.{Settled}
+use Rattle.call.specs.Events.{seenMessage, seenOf}
 use Rattle.call.specs.Step.{
-  withTimer,
-  timersAfter,
   parametersAfter,
   valueAfter,
   afterwards,
@@ -43,91 +56,113 @@ use Rattle.call.specs.Step.{
   statusTold,
   parametersSet,
   carriedOut,
-  stepValue,
+  stepBy,
 }
+use Rattle.call.specs.Due.{settledBy, settled}
 
--- A row keeps the timers fit: those that fit the state fit the next one after what is stopped and set; unless the next is U0, which clears.
-abbrev keeps : State → Test
-keeps s n next actions sends stops sets = same next U0 || ofTimers (λ t. not (timersFit s t) || timersFit next (timersAfter stops sets t))
+-- ---- after a row
 
--- Every row of the table does.
-rows-keep : (x : Context) (s : State) → inTable (keeps s) s x stepTable ≡ true
-unfolding stepTable timersFit withTimer
-rows-keep x = at-state (λ s. inTable (keeps s) s x stepTable) refl
-
--- What the table decides in a state: a row that keeps timers fit; SET PARAMETER not in U0.
-abbrev Good : State → Decision → Type 0
-Good s (Take next actions sends stops sets) = keeps s 0 next actions sends stops sets ≡ true
-Good s NoStep = Unit {0}
-Good s Ignore = Unit {0}
-Good s (Report cause) = Unit {0}
-Good s TellStatus = Unit {0}
-Good s SetParameters = same s U0 ≡ false
-
-decided-good : (x : Context) (n code : ℕ) → Good (x .state) (decidedOf x n code)
-unfolding decidedOf
-decided-good x n code =
-    decided-holds (keeps (x .state)) (λ k d. Good (x .state) d) (x .state) x (λ k next actions sends stops sets e. e) (λ k. tt) (rows-keep x (x .state)) tt (λ cause. tt) tt
-    (λ e. e) n code
-
--- The value that an event stores is at most 6.
-abbrev pub StoresFit : Stores → Type 0
-StoresFit Nothing = Unit {0}
-StoresFit (Call value reference) = leb value 6 ≡ true
-StoresFit (CallReference reference) = Unit {0}
-
-value-fits : (stores : Stores) (value : ℕ) → StoresFit stores → leb value 6 ≡ true → leb (valueAfter stores value) 6 ≡ true
+value-fits : (stores : Stores) (carried kept : ℕ) → leb carried 6 ≡ true → leb kept 6 ≡ true → leb (valueAfter stores carried kept) 6 ≡ true
 unfolding valueAfter
-value-fits Nothing value s h = h
-value-fits (Call stored reference) value s h = s
-value-fits (CallReference reference) value s h = h
-
-parameters-fit : (x : Context) (next : State) → consistent (x .state) (x .parameters) ≡ true → consistent next (parametersAfter x next) ≡ true
-unfolding parametersAfter
-parameters-fit x next h =
-    at-cond (λ p. consistent next p ≡ true) (same (x .state) next) (x .parameters) (startRow next)
-    (λ e. subst (λ s. consistent s (x .parameters) ≡ true) (same-state (x .state) next e) h) (λ e. start-consistent next)
+value-fits Nothing carried kept c k = k
+value-fits ValueAndReference carried kept c k = c
+value-fits ItsReference carried kept c k = k
 
 not-u0 : (t : Bool) (c : Bool) → t ≡ false → (not t || c) ≡ true
 not-u0 t c e = rw e
 
-afterwards-fit : (x : Context) (next : State) (stops sets : Timer) (stores : Stores) → fitOf x ≡ true → Good (x .state) (Take next 0 Send.Nothing stops sets)
-    → StoresFit stores → fitOf (afterwards x next stops sets stores) ≡ true
+-- Entering U0 clears, whatever the row.
+pub enters-cleared : (x : Context) (d : Taken) (e : Seen) → same (d .next) U0 ≡ true → afterwards x d e ≡ cleared
 unfolding afterwards
-afterwards-fit x next stops sets stores fit good fits =
-    at-cond (λ c. fitOf c ≡ true) (same next U0) _ _ (λ e. cleared-fit)
-    (λ e.
-    let k : ofTimers (λ t. not (timersFit (x .state) t) || timersFit next (timersAfter stops sets t)) ≡ true = rw e at good in
-    fit-made _ (parameters-fit x next (fit-consistent x fit)) (value-fits stores (x .value) fits (fit-value x fit)) (not-u0 (same next U0) _ e)
-    (if-so _ _ (at-timers (λ t. not (timersFit (x .state) t) || timersFit next (timersAfter stops sets t)) k (x .timers)) (fit-timers x fit)))
+enters-cleared x d e u = rw u
 
-abbrev pub Fit : Stepped → Type 0
+-- The value that what is due carries is at most 6.
+abbrev pub DueFit : Due → Type 0
+DueFit (Steps event) = leb (seenOf event .value) 6 ≡ true
+DueFit Ignored = Unit {0}
+DueFit (Reported cause) = Unit {0}
+DueFit Refused = Unit {0}
+
+-- ---- after a step
+
+abbrev pub Fit : Settled → Type 0
 Fit r = fitOf (r .context) ≡ true
 
-pub reported-fit : (x : Context) (cause : ℕ) → fitOf x ≡ true → Fit (reportedWith cause x)
-unfolding reportedWith ignored
-reported-fit x cause fit = at-cond Fit (x .parameters .comm) _ _ (λ e. fit) (λ e. fit)
+module _ (fitness : Fitness) (most : ℕ) (table : List Row) (sound : Sound fitness most table) (x : Context) (fit : fitBy fitness x ≡ true) where
+  abbrev StaysFit : Context → Type 0
+  StaysFit y = fitBy fitness y ≡ true
 
-carried-fit : (x : Context) (d : Decision) (e : Seen) → fitOf x ≡ true → Good (x .state) d → StoresFit (e .stores) → Fit (carriedOut x d e)
-unfolding carriedOut noStep ignored statusTold parametersSet
-carried-fit x (Take next actions sends stops sets) e fit good fits = afterwards-fit x next stops sets (e .stores) fit good fits
-carried-fit x NoStep e fit good fits = fit
-carried-fit x Ignore e fit good fits = fit
-carried-fit x (Report cause) e fit good fits = reported-fit x cause fit
-carried-fit x TellStatus e fit good fits = at-cond Fit (x .parameters .comm) _ _ (λ q. fit) (λ q. fit)
-carried-fit x SetParameters e fit good fits =
-    at-cond Fit (consistent (x .state) (parametersOf (e .attributes))) _ _
-    (λ q. fit-made _ q (fit-value x fit) (not-u0 (same (x .state) U0) _ good) (fit-timers x fit)) (λ q. reported-fit x 98 fit)
+  abbrev StepFits : Settled → Type 0
+  StepFits r = StaysFit (r .context)
 
--- A step from a fit context ends in a fit one.
-pub step-fit : (x : Context) (event : Event) → fitOf x ≡ true → StoresFit (seenOf event .stores) → fitOf (stepValue x event .context) ≡ true
-unfolding stepValue
-step-fit x event fit fits =
-    carried-fit x (decidedOf x (seenOf event .number) (seenOf event .code)) (seenOf event) fit (decided-good x (seenOf event .number) (seenOf event .code)) fits
+  parameters-fit : (next : State) → consistentBy fitness next (parametersAfter x next) ≡ true
+  unfolding parametersAfter
+  parameters-fit next =
+      at-cond (λ p. consistentBy fitness next p ≡ true) (same (x .state) next) (x .parameters) (entering next (x .parameters))
+      (λ e. subst (λ s. consistentBy fitness s (x .parameters) ≡ true) (same-state (x .state) next e) (fit-consistent fitness x fit))
+      (λ e. entering-consistent fitness (sound .fitness-sound) next (x .parameters))
+
+  afterwards-fit : (d : Taken) (e : Seen) → Keeps fitness x (Take d) → leb (e .value) 6 ≡ true → StaysFit (afterwards x d e)
+  unfolding afterwards
+  afterwards-fit d e keeps fits =
+      at-cond StaysFit (same (d .next) U0) _ _ (λ u. cleared-sound fitness (sound .fitness-sound))
+      (λ u.
+      let k : (not (timersFitBy fitness (x .state) (x .timers)) || timersFitBy fitness (d .next) (timersAfter d (x .timers))) ≡ true = rw u at keeps in
+      fit-made fitness _ (parameters-fit (d .next)) (value-fits (d .stores) (e .value) (x .value) fits (fit-value fitness x fit))
+      (not-u0 (same (d .next) U0) _ u) (if-so _ _ k (fit-timers fitness x fit)))
+
+  reported-fit : (cause : ℕ) → StepFits (reportedWith cause x)
+  unfolding reportedWith ignored
+  reported-fit cause = at-cond StepFits (x .parameters .comm) _ _ (λ e. fit) (λ e. fit)
+
+  carried-fit : (d : Decision) (e : Seen) → Keeps fitness x d → leb (e .value) 6 ≡ true → StepFits (carriedOut fitness x d e)
+  unfolding carriedOut noStep ignored statusTold parametersSet
+  carried-fit (Take d) e keeps fits = afterwards-fit d e keeps fits
+  carried-fit NoStep e keeps fits = fit
+  carried-fit Ignore e keeps fits = fit
+  carried-fit (Report cause) e keeps fits = reported-fit cause
+  carried-fit TellStatus e keeps fits = at-cond StepFits (x .parameters .comm) _ _ (λ q. fit) (λ q. fit)
+  carried-fit SetParameters e keeps fits =
+      at-cond StepFits (consistentBy fitness (x .state) (parametersOf (e .attributes))) _ _
+      (λ q. fit-made fitness _ q (fit-value fitness x fit) (not-u0 (same (x .state) U0) _ keeps) (fit-timers fitness x fit)) (λ q. reported-fit 98)
+
+  -- A step by sound rows from a fit context ends in a fit one, where the value that the event carries is at most 6.
+  step-by : (event : Event) → leb (seenOf event .value) 6 ≡ true → StepFits (stepBy fitness table x event)
+  unfolding stepBy
+  step-by event fits = carried-fit _ (seenOf event) (decided-keeps fitness most table sound x (seenOf event .number) (seenOf event .code)) fits
+
+  -- So does whatever is due.
+  pub fit-by : (due : Due) → DueFit due → StepFits (settledBy fitness table x due)
+  unfolding settledBy ignored noStep
+  fit-by (Steps event) fits = step-by event fits
+  fit-by Ignored fits = fit
+  fit-by (Reported cause) fits = reported-fit cause
+  fit-by Refused fits = fit
+
+-- By document 01's rows.
+pub settled-fit : (x : Context) → fitOf x ≡ true → (due : Due) → DueFit due → Fit (settled x due)
+settled-fit = fit-by firstFitness 63 stepTable document-01
+
+-- A message carries no value.
+message-value : (m : Message) → seenMessage m .value ≡ 0
+unfolding seenMessage
+message-value (Connect reference originator) = refl
+message-value (GetStatus identity) = refl
+message-value (ImmediateSetup key classmark identity reference) = refl
+message-value (SetParameter attributes) = refl
+message-value (Setup reference) = refl
+message-value (Status cause state attributes) = refl
+message-value (Termination cause) = refl
+message-value (TerminationReject cause) = refl
+message-value (TerminationRequest reference) = refl
+
+pub received-value : (mode : ℕ) (m : Message) → leb (seenOf (Received mode m) .value) 6 ≡ true
+unfolding seenOf
+received-value mode m = rw (message-value m)
 
 -- Where some parameters are inconsistent with a state, COMM true is.
 silent : (s : State) (p q : Parameters) → consistent s p ≡ false → consistent s q ≡ true → q .comm ≡ false
-unfolding consistent
+unfolding consistentBy firstFitness
 silent U0 p q e f = not-true _ f
 silent U0p p q e f = never (sym e)
 silent U1 p q e f = never (sym e)
@@ -138,44 +173,8 @@ silent U5 p q e f = never (sym e)
 silent U6 p q e f = not-true _ (and-right (not (q .orig)) _ f)
 
 -- An inconsistent SET PARAMETER is always ignored in a fit context: answer 1.
-pub inconsistent-ignored : (x : Context) (attributes : ℕ) → fitOf x ≡ true → consistent (x .state) (parametersOf attributes) ≡ false → parametersSet attributes x ≡ ignored x
+pub inconsistent-ignored : (x : Context) (attributes : ℕ) → fitOf x ≡ true → consistent (x .state) (parametersOf attributes) ≡ false → parametersSet firstFitness attributes x ≡ ignored x
 unfolding parametersSet reportedWith
 inconsistent-ignored x attributes fit e =
-    let c : x .parameters .comm ≡ false = silent (x .state) (parametersOf attributes) (x .parameters) e (fit-consistent x fit) in
+    let c : x .parameters .comm ≡ false = silent (x .state) (parametersOf attributes) (x .parameters) e (fit-consistent firstFitness x fit) in
     rw (e, c)
-
--- Whether a timer is among those that run.
-abbrev pub runsIn : Timer → Timers → Bool
-runsIn NoTimer t = false
-runsIn MmEst t = t .mmest
-runsIn Term t = t .term
-runsIn ConnReq t = t .connreq
-runsIn NoChannel t = t .nochannel
-
--- A row sets no timer that runs, except that of event 12, which leaves it to run.
-abbrev fresh : State → Test
-fresh s n next actions sends stops sets = eqb n 12 || ofTimers (λ t. not (timersFit s t) || not (runsIn sets t))
-
-rows-fresh : (x : Context) (s : State) → inTable (fresh s) s x stepTable ≡ true
-unfolding stepTable timersFit
-rows-fresh x = at-state (λ s. inTable (fresh s) s x stepTable) refl
-
-abbrev pub SetsFresh : Context → ℕ → Decision → Type 0
-SetsFresh x n (Take next actions sends stops sets) = eqb n 12 ≡ false → runsIn sets (x .timers) ≡ false
-SetsFresh x n NoStep = Unit {0}
-SetsFresh x n Ignore = Unit {0}
-SetsFresh x n (Report cause) = Unit {0}
-SetsFresh x n TellStatus = Unit {0}
-SetsFresh x n SetParameters = Unit {0}
-
--- In a fit context no event but 12, no channel, sets a timer that runs; and 12 leaves T_no channel running.
-pub sets-fresh : (x : Context) → fitOf x ≡ true → (n code : ℕ) → SetsFresh x n (decidedOf x n code)
-unfolding decidedOf
-sets-fresh x fit n code =
-    decided-holds (fresh (x .state)) (SetsFresh x) (x .state) x
-    (λ k next actions sends stops sets e f.
-    not-true _
-    (if-so _ _
-    (at-timers (λ t. not (timersFit (x .state) t) || not (runsIn sets t)) (rw f at e) (x .timers))
-    (fit-timers x fit)))
-    (λ k. tt) (rows-fresh x (x .state)) tt (λ cause. tt) tt (λ e. tt) n code

@@ -16,33 +16,35 @@ use Rattle.message.specs.declared.Message.{Message}
 use Rattle.message.specs.declared.Message.the-variants as Message
 use Rattle.call.specs.declared.Event.{Event}
 use Rattle.call.specs.declared.Event.the-variants as Event
-use Rattle.call.specs.declared.Stores.{Stores}
-use Rattle.call.specs.declared.Stores.the-variants.{Nothing, Call, CallReference}
 use Rattle.call.specs.declared.Seen.{Seen}
+
+-- What is not carried is 0.
+abbrev pub noReference : Reference
+noReference = record { first = 0; second = 0; third = 0; fourth = 0 }
 
 -- An event that carries nothing.
 abbrev pub bare : ℕ → Seen
-bare number = record { number = number; code = 0; stores = Nothing; attributes = 0 }
+bare number = record { number = number; code = 0; value = 0; reference = noReference; attributes = 0 }
 
--- Events 1, 2 and 10 carry a transaction value and a reference, stored when taken.
+-- Events 1, 2 and 10 carry a transaction value and a reference.
 abbrev pub carrying : ℕ → ℕ → Reference → Seen
-carrying number value reference = record { number = number; code = 0; stores = Call value reference; attributes = 0 }
+carrying number value reference = record { number = number; code = 0; value = value; reference = reference; attributes = 0 }
 
 -- A message received, by its type.
-abbrev pub heard : ℕ → Stores → ℕ → Seen
-heard code stores attributes = record { number = 18; code = code; stores = stores; attributes = attributes }
+abbrev pub heard : ℕ → Reference → ℕ → Seen
+heard code reference attributes = record { number = 18; code = code; value = 0; reference = reference; attributes = attributes }
 
--- Of the messages CONNECT stores its reference; SET PARAMETER carries state attributes.
+-- Of the messages that have a row or a sentence, CONNECT carries a reference and SET PARAMETER state attributes.
 unfoldable pub seenMessage : Message → Seen
-seenMessage (Message.Connect reference originator) = heard CONNECT (CallReference reference) 0
-seenMessage (Message.GetStatus identity) = heard GET-STATUS Nothing 0
-seenMessage (Message.ImmediateSetup key classmark identity reference) = heard IMMEDIATE-SETUP Nothing 0
-seenMessage (Message.SetParameter attributes) = heard SET-PARAMETER Nothing attributes
-seenMessage (Message.Setup reference) = heard SETUP Nothing 0
-seenMessage (Message.Status cause state attributes) = heard STATUS Nothing 0
-seenMessage (Message.Termination cause) = heard TERMINATION Nothing 0
-seenMessage (Message.TerminationReject cause) = heard TERMINATION-REJECT Nothing 0
-seenMessage (Message.TerminationRequest reference) = heard TERMINATION-REQUEST Nothing 0
+seenMessage (Message.Connect reference originator) = heard CONNECT reference 0
+seenMessage (Message.GetStatus identity) = heard GET-STATUS noReference 0
+seenMessage (Message.ImmediateSetup key classmark identity reference) = heard IMMEDIATE-SETUP noReference 0
+seenMessage (Message.SetParameter attributes) = heard SET-PARAMETER noReference attributes
+seenMessage (Message.Setup reference) = heard SETUP noReference 0
+seenMessage (Message.Status cause state attributes) = heard STATUS noReference 0
+seenMessage (Message.Termination cause) = heard TERMINATION noReference 0
+seenMessage (Message.TerminationReject cause) = heard TERMINATION-REJECT noReference 0
+seenMessage (Message.TerminationRequest reference) = heard TERMINATION-REQUEST noReference 0
 
 -- The eighteen events.
 unfoldable pub seenOf : Event → Seen

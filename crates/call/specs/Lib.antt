@@ -1,3 +1,4 @@
 pub mod Events
 pub mod Step
 pub mod Due
+pub mod Sets

@@ -1,87 +1,75 @@
 -- Document 01, "Events and steps": what a row of the step table brings about, GET STATUS, SET PARAMETER, "reported" and "ignored".
 use Prim.Native.Nat.{ℕ}
-use mathlib.Core.Bool.{Bool, true, false, cond}
+use mathlib.Core.List.{List}
+use mathlib.Core.Bool.{cond}
 use Rattle.codes.specs.declared.state.State.{State}
 use Rattle.codes.specs.declared.state.State.the-variants.{U0}
 use Rattle.codes.specs.declared.attributes.Parameters.{Parameters}
 use Rattle.codes.specs.Attributes.{parametersOf}
 use Rattle.message.specs.declared.Reference.{Reference}
-use Rattle.context.specs.declared.Timers.{Timers}
 use Rattle.context.specs.declared.Context.{Context}
 use Rattle.context.specs.States.{same}
-use Rattle.context.specs.Context.{startRow, cleared}
-use Rattle.context.specs.Fit.{consistent}
-use Rattle.transitions.specs.declared.Timer.{Timer}
-use Rattle.transitions.specs.declared.Timer.the-variants.{NoTimer, MmEst, Term, ConnReq, NoChannel}
+use Rattle.context.specs.Context.{entering, cleared}
+use Rattle.fitness.specs.Fitness.{Fitness, consistentBy}
+use Rattle.fitness.specs.First.{firstFitness}
 use Rattle.transitions.specs.declared.Send.{Send}
 use Rattle.transitions.specs.declared.Send.the-variants as Send
+use Rattle.transitions.specs.declared.Stores.{Stores}
+use Rattle.transitions.specs.declared.Stores.the-variants.{Nothing, ValueAndReference, ItsReference}
+use Rattle.transitions.specs.declared.Taken.{Taken}
 use Rattle.transitions.specs.declared.Decision.{Decision}
 use Rattle.transitions.specs.declared.Decision.the-variants.{Take, NoStep, Ignore, Report, TellStatus, SetParameters}
-use Rattle.transitions.specs.Table.{decidedOf}
+use Rattle.transitions.specs.Table.{Row, stepTable, timersAfter, decidedBy}
 use Rattle.call.specs.declared.Event.{Event}
-use Rattle.call.specs.declared.Stores.{Stores}
-use Rattle.call.specs.declared.Stores.the-variants.{Nothing, Call, CallReference}
 use Rattle.call.specs.declared.Seen.{Seen}
-use Rattle.call.specs.declared.Stepped.{Stepped}
+use Rattle.call.specs.declared.Settled.{Settled}
 use Rattle.call.specs.Events.{seenOf}
 
--- The timers with one of them running or not.
-unfoldable pub withTimer : Timer → Bool → Timers → Timers
-withTimer NoTimer runs t = t
-withTimer MmEst runs t = record { mmest = runs; term = t .term; connreq = t .connreq; nochannel = t .nochannel }
-withTimer Term runs t = record { mmest = t .mmest; term = runs; connreq = t .connreq; nochannel = t .nochannel }
-withTimer ConnReq runs t = record { mmest = t .mmest; term = t .term; connreq = runs; nochannel = t .nochannel }
-withTimer NoChannel runs t = record { mmest = t .mmest; term = t .term; connreq = t .connreq; nochannel = runs }
-
--- A row stops a timer and sets a timer.
-abbrev pub timersAfter : Timer → Timer → Timers → Timers
-timersAfter stops sets t = withTimer sets true (withTimer stops false t)
-
--- Entering a state sets its row. A step that stays in its state keeps the parameters.
+-- A step that stays in its state keeps the parameters; another enters its next state.
 unfoldable pub parametersAfter : Context → State → Parameters
-parametersAfter x next = cond (same (x .state) next) (x .parameters) (startRow next)
+parametersAfter x next = cond (same (x .state) next) (x .parameters) (entering next (x .parameters))
 
--- Events 1, 2 and 10 store a transaction value and a reference when taken; CONNECT stores its reference.
-unfoldable pub valueAfter : Stores → ℕ → ℕ
-valueAfter Nothing value = value
-valueAfter (Call stored reference) value = stored
-valueAfter (CallReference stored) value = value
+-- What a row stores it has from the event, and keeps the rest.
+unfoldable pub valueAfter : Stores → (carried kept : ℕ) → ℕ
+valueAfter Nothing carried kept = kept
+valueAfter ValueAndReference carried kept = carried
+valueAfter ItsReference carried kept = kept
 
-unfoldable pub referenceAfter : Stores → Reference → Reference
-referenceAfter Nothing reference = reference
-referenceAfter (Call value stored) reference = stored
-referenceAfter (CallReference stored) reference = stored
+unfoldable pub referenceAfter : Stores → (carried kept : Reference) → Reference
+referenceAfter Nothing carried kept = kept
+referenceAfter ValueAndReference carried kept = carried
+referenceAfter ItsReference carried kept = carried
 
 -- Entering U0 clears.
-unfoldable pub afterwards : Context → State → Timer → Timer → Stores → Context
-afterwards x next stops sets stores =
-    cond (same next U0) cleared
+unfoldable pub afterwards : Context → Taken → Seen → Context
+afterwards x d e =
+    cond (same (d .next) U0) cleared
     (record {
-      state = next;
-      parameters = parametersAfter x next;
-      timers = timersAfter stops sets (x .timers);
-      value = valueAfter stores (x .value);
-      reference = referenceAfter stores (x .reference);
+      state = d .next;
+      parameters = parametersAfter x (d .next);
+      timers = timersAfter d (x .timers);
+      value = valueAfter (d .stores) (e .value) (x .value);
+      reference = referenceAfter (d .stores) (e .reference) (x .reference);
     })
 
 -- Answer 0: taken.
-abbrev pub took : Context → ℕ → Send → Stepped
+abbrev pub took : Context → ℕ → Send → Settled
 took x actions sends = record { answer = 0; context = x; actions = actions; sends = sends }
 
 -- Answer 1: message ignored.
-unfoldable pub ignored : Context → Stepped
+unfoldable pub ignored : Context → Settled
 ignored x = record { answer = 1; context = x; actions = 0; sends = Send.Nothing }
 
 -- Answer 3: event has no step here.
-unfoldable pub noStep : Context → Stepped
+unfoldable pub noStep : Context → Settled
 noStep x = record { answer = 3; context = x; actions = 0; sends = Send.Nothing }
 
 -- "Reported" means answer 2 and a STATUS if COMM was true, else answer 1.
-unfoldable pub reportedWith : ℕ → Context → Stepped
+unfoldable pub reportedWith : ℕ → Context → Settled
 reportedWith cause x = cond (x .parameters .comm) (record { answer = 2; context = x; actions = 0; sends = Send.ErrorStatus cause }) (ignored x)
 
 -- GET STATUS: with COMM true answer 0 and a STATUS with cause 30, else ignored.
-unfoldable pub statusTold : Context → Stepped
+unfoldable pub statusTold : Context → Settled
 statusTold x = cond (x .parameters .comm) (took x 0 (Send.Status 30)) (ignored x)
 
 -- The context with other parameters.
@@ -90,20 +78,24 @@ withParameters p x = record { state = x .state; parameters = p; timers = x .time
 
 -- SET PARAMETER: consistent values are set, answer 0, no reply. Inconsistent ones set nothing and are reported with the cause 6.5.1.2 names,
 -- "message incompatible with protocol state": 98.
-unfoldable pub parametersSet : ℕ → Context → Stepped
-parametersSet attributes x =
+unfoldable pub parametersSet : Fitness → ℕ → Context → Settled
+parametersSet fitness attributes x =
     let p : Parameters = parametersOf attributes in
-    cond (consistent (x .state) p) (took (withParameters p x) 0 Send.Nothing) (reportedWith 98 x)
+    cond (consistentBy fitness (x .state) p) (took (withParameters p x) 0 Send.Nothing) (reportedWith 98 x)
 
 -- What the table's decision brings about.
-unfoldable pub carriedOut : Context → Decision → Seen → Stepped
-carriedOut x (Take next actions sends stops sets) e = took (afterwards x next stops sets (e .stores)) actions sends
-carriedOut x NoStep e = noStep x
-carriedOut x Ignore e = ignored x
-carriedOut x (Report cause) e = reportedWith cause x
-carriedOut x TellStatus e = statusTold x
-carriedOut x SetParameters e = parametersSet (e .attributes) x
+unfoldable pub carriedOut : Fitness → Context → Decision → Seen → Settled
+carriedOut fitness x (Take d) e = took (afterwards x d e) (d .actions) (d .sends)
+carriedOut fitness x NoStep e = noStep x
+carriedOut fitness x Ignore e = ignored x
+carriedOut fitness x (Report cause) e = reportedWith cause x
+carriedOut fitness x TellStatus e = statusTold x
+carriedOut fitness x SetParameters e = parametersSet fitness (e .attributes) x
 
--- The step of an event: the table's row for it, carried out.
-unfoldable pub stepValue : Context → Event → Stepped
-stepValue x event = let e : Seen = seenOf event in carriedOut x (decidedOf x (e .number) (e .code)) e
+-- The step of an event by a table's rows, and what it says of fitness: its row for the event, carried out.
+unfoldable pub stepBy : Fitness → List Row → Context → Event → Settled
+stepBy fitness table x event = let e : Seen = seenOf event in carriedOut fitness x (decidedBy table x (e .number) (e .code)) e
+
+-- By document 01's.
+abbrev pub stepValue : Context → Event → Settled
+stepValue = stepBy firstFitness stepTable

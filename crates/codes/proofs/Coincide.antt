@@ -4,10 +4,8 @@ use mathlib.Core.Path.{_≡_}
 use Rattle.octets.proofs.Coincide.{coincide}
 use Rattle.codes.specs.declared.state.State.{State}
 use Rattle.codes.specs.declared.state.CallState.{CallState}
-use Rattle.codes.specs.declared.cause.Cause.{Cause}
 use Rattle.codes.specs.declared.attributes.Parameters.{Parameters}
 use Rattle.codes.specs.CallStates.{callStateOf, callStateCode}
-use Rattle.codes.specs.Causes.{causeOf, causeSaid}
 use Rattle.codes.specs.Attributes.{parametersOf, attributesOf}
 
 pub call-state-of-coincides : (code : ℕ) (a b : CallState) → a ≡ callStateOf code → b ≡ callStateOf code → a ≡ b
@@ -15,12 +13,6 @@ call-state-of-coincides code a b = coincide (callStateOf code) a b
 
 pub call-state-code-coincides : (state : State) (a b : ℕ) → a ≡ callStateCode state → b ≡ callStateCode state → a ≡ b
 call-state-code-coincides state a b = coincide (callStateCode state) a b
-
-pub cause-of-coincides : (number : ℕ) (a b : Cause) → a ≡ causeOf number → b ≡ causeOf number → a ≡ b
-cause-of-coincides number a b = coincide (causeOf number) a b
-
-pub cause-said-coincides : (first : ℕ) (a b : Cause) → a ≡ causeSaid first → b ≡ causeSaid first → a ≡ b
-cause-said-coincides first a b = coincide (causeSaid first) a b
 
 pub parameters-of-coincides : (half : ℕ) (a b : Parameters) → a ≡ parametersOf half → b ≡ parametersOf half → a ≡ b
 parameters-of-coincides half a b = coincide (parametersOf half) a b

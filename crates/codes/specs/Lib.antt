@@ -1,4 +1,3 @@
 pub mod MessageTypes
 pub mod CallStates
-pub mod Causes
 pub mod Attributes

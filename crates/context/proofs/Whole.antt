@@ -1,27 +1,10 @@
--- Tests that are computed over all states and all timers, and the rule that each gives at one of them.
-use mathlib.Core.Path.{_≡_, refl}
-use mathlib.Core.Bool.{Bool, true, false, not, _&&_, _||_}
-use Rattle.octets.proofs.Choice.{never}
+-- Tests that are computed over all states and all parameters, and the rule that each gives at one of them; beside them the same of all timers.
+pub use Rattle.timer.proofs.Whole.{and-left, and-right, and-both, if-so, either, at-bool, ofTimers, at-timers}
+use mathlib.Core.Path.{_≡_}
+use mathlib.Core.Bool.{Bool, true, _&&_}
 use Rattle.codes.specs.declared.state.State.{State}
 use Rattle.codes.specs.declared.state.State.the-variants.{U0, U0p, U1, U2, U3, U4, U5, U6}
-use Rattle.context.specs.declared.Timers.{Timers}
-
-pub and-left : (a b : Bool) → (a && b) ≡ true → a ≡ true
-and-left true b e = refl
-and-left false b e = e
-
-pub and-right : (a b : Bool) → (a && b) ≡ true → b ≡ true
-and-right true b e = e
-and-right false b e = never e
-
-pub and-both : (a b : Bool) → a ≡ true → b ≡ true → (a && b) ≡ true
-and-both true b e f = f
-and-both false b e f = e
-
--- A test that asks the second if the first holds.
-pub if-so : (a b : Bool) → (not a || b) ≡ true → a ≡ true → b ≡ true
-if-so true b e h = e
-if-so false b e h = never h
+use Rattle.codes.specs.declared.attributes.Parameters.{Parameters}
 
 -- The test holds in every state.
 abbrev pub inStates : (State → Bool) → Bool
@@ -42,23 +25,16 @@ at-state P e U6 =
     and-right (P U5) _
     (and-right (P U4) _ (and-right (P U3) _ (and-right (P U2) _ (and-right (P U1) _ (and-right (P U0p) _ (and-right (P U0) _ e))))))
 
-abbrev either : (Bool → Bool) → Bool
-either P = P true && P false
+abbrev parameters : Bool → Bool → Bool → Bool → Parameters
+parameters a b c d = record { orig = a; comm = b; datt = c; uatt = d }
 
-at-bool : (P : Bool → Bool) → either P ≡ true → (b : Bool) → P b ≡ true
-at-bool P e true = and-left (P true) _ e
-at-bool P e false = and-right (P true) _ e
+-- The test holds of all parameters.
+abbrev pub ofParameters : (Parameters → Bool) → Bool
+ofParameters P = either (λ a. either (λ b. either (λ c. either (λ d. P (parameters a b c d)))))
 
-abbrev timers : Bool → Bool → Bool → Bool → Timers
-timers a b c d = record { mmest = a; term = b; connreq = c; nochannel = d }
-
--- The test holds of all timers.
-abbrev pub ofTimers : (Timers → Bool) → Bool
-ofTimers P = either (λ a. either (λ b. either (λ c. either (λ d. P (timers a b c d)))))
-
-pub at-timers : (P : Timers → Bool) → ofTimers P ≡ true → (t : Timers) → P t ≡ true
-at-timers P e t =
-    at-bool (λ d. P (timers (t .mmest) (t .term) (t .connreq) d))
-    (at-bool (λ c. either (λ d. P (timers (t .mmest) (t .term) c d)))
-    (at-bool (λ b. either (λ c. either (λ d. P (timers (t .mmest) b c d))))
-    (at-bool (λ a. either (λ b. either (λ c. either (λ d. P (timers a b c d))))) e (t .mmest)) (t .term)) (t .connreq)) (t .nochannel)
+pub at-parameters : (P : Parameters → Bool) → ofParameters P ≡ true → (p : Parameters) → P p ≡ true
+at-parameters P e p =
+    at-bool (λ d. P (parameters (p .orig) (p .comm) (p .datt) d))
+    (at-bool (λ c. either (λ d. P (parameters (p .orig) (p .comm) c d)))
+    (at-bool (λ b. either (λ c. either (λ d. P (parameters (p .orig) b c d))))
+    (at-bool (λ a. either (λ b. either (λ c. either (λ d. P (parameters a b c d))))) e (p .orig)) (p .comm)) (p .datt)) (p .uatt)

@@ -1,4 +1,3 @@
 pub mod States
 pub mod Context
-pub mod Fit
 pub mod Running

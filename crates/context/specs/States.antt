@@ -5,6 +5,7 @@ use mathlib.Core.Bool.{Bool, false, _||_}
 use lib.Dec.{eqb}
 use Rattle.codes.specs.declared.state.State.{State}
 use Rattle.codes.specs.declared.state.State.the-variants.{U0, U0p, U1, U2, U3, U4, U5, U6}
+use Rattle.context.specs.declared.Context.{Context}
 
 -- Document 01, "The log": state, 0 to 7 for U0, U0.p, U1, U2, U3, U4, U5, U6.
 abbrev pub numberOf : State → ℕ
@@ -27,5 +28,5 @@ among s [] = false
 among s (x ∷ xs) = same s x || among s xs
 
 -- Document 01, "Received messages", rule 1: flag 1 in U0.p, U1, U2, U5 and flag 0 in U3, U4, U6.
-unfoldable pub flagOf : State → Bool
-flagOf s = among s (U0p ∷ U1 ∷ U2 ∷ U5 ∷ [])
+unfoldable pub flagOf : Context → Bool
+flagOf x = among (x .state) (U0p ∷ U1 ∷ U2 ∷ U5 ∷ [])

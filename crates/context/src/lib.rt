@@ -1,21 +1,11 @@
-// The context of a call: its state, parameters, timers, transaction value and reference; which contexts are fit, and what a state starts with.
+// The context of a call: its state, parameters, timers, transaction value and reference; what a state starts with, and which flag is expected.
 ghost use mathlib.Core.Path.{_≡_};
-ghost use mathlib.Core.Bool.{false};
 ghost use Rattle.context.specs.States.{numberOf, flagOf};
-ghost use Rattle.context.specs.Context.{startRow, cleared};
-ghost use Rattle.context.specs.Fit.{consistent, timersFit, isCleared, fitOf};
-ghost use Rattle.context.specs.Running.{runs, expiryOf, lengthOf};
+ghost use Rattle.context.specs.Context.{startRow, entering, cleared};
 use codes::attributes::Parameters;
 use codes::state::State;
 use message::Reference;
-
-// Which timers run: T_MM-est, T_term, T_conn req, T_no channel.
-pub struct Timers {
-    pub mmest: bool,
-    pub term: bool,
-    pub connreq: bool,
-    pub nochannel: bool,
-}
+use timer::Timers;
 
 pub struct Context {
     pub state: State,
@@ -36,19 +26,6 @@ pub const START_ROWS: [[bool; 4]; 8] = [
     [true, true, true, true],
     [false, false, true, false],
 ];
-
-// The timers' lengths in milliseconds; T_conn req, the joining timer, is a setting from its least to its greatest.
-impl Timers {
-    pub const MM_EST: u32 = 5000;
-
-    pub const TERM: u32 = 10000;
-
-    pub const JOINING_LEAST: u32 = 10000;
-
-    pub const JOINING_GREATEST: u32 = 30000;
-
-    pub const NO_CHANNEL: u32 = 3000;
-}
 
 impl Context {
     // U0, parameters false, no timer, value 0, reference zero.
@@ -110,10 +87,18 @@ pub fn start_row(state: State) -> Parameters
     }
 }
 
-// The transaction flag of what is received in the state; what is sent has the opposite.
-pub fn expected_flag(state: State) -> bool
-    ensures { λ r. ⌜ r ≡ flagOf state ⌝ }
+// The parameters where a state is entered, by what they were before: today they are those of its row, whatever they were.
+pub fn entering(state: State, before: Parameters) -> Parameters
+    ensures { λ r. ⌜ r ≡ entering state before ⌝ }
 {
+    start_row(state)
+}
+
+// The transaction flag of what is received in the context; what is sent has the opposite.
+pub fn expected_flag(context: Context) -> bool
+    ensures { λ r. ⌜ r ≡ flagOf context ⌝ }
+{
+    let state = context.state;
     match state {
         State::U0 => false,
         State::U0p => true,
@@ -123,122 +108,5 @@ pub fn expected_flag(state: State) -> bool
         State::U4 => false,
         State::U5 => true,
         State::U6 => false,
-    }
-}
-
-// Whether the parameters are consistent with the state, 6.1.2.1.11.
-pub fn is_consistent(state: State, parameters: Parameters) -> bool
-    ensures { λ r. ⌜ r ≡ consistent state parameters ⌝ }
-{
-    fits_state(state, parameters.orig, parameters.comm)
-}
-
-// The same of the two parameters that a state asks about. They come one by one, since four that are passed as one are first put together.
-fn fits_state(state: State, orig: bool, comm: bool) -> bool
-    ensures { λ r. ⌜ r ≡ consistent state (record { orig = orig; comm = comm; datt = false; uatt = false }) ⌝ }
-{
-    match state {
-        State::U0 => !comm,
-        State::U0p => true,
-        State::U1 => true,
-        State::U2 => true,
-        State::U3 => !orig & !comm,
-        State::U4 => !orig & !comm,
-        State::U5 => true,
-        State::U6 => !orig & !comm,
-    }
-}
-
-// Whether the timers that run are those of the state.
-fn timers_fit(state: State, timers: Timers) -> bool
-    ensures { λ r. ⌜ r ≡ timersFit state timers ⌝ }
-{
-    match state {
-        State::U0 => !timers.mmest & (!timers.term & (!timers.connreq & !timers.nochannel)),
-        State::U0p => timers.mmest & (!timers.term & (!timers.connreq & !timers.nochannel)),
-        State::U1 => !timers.term & (!timers.connreq & !timers.nochannel),
-        State::U2 => !timers.mmest & (!timers.term & (!timers.connreq & !timers.nochannel)),
-        State::U3 => !timers.mmest & (!timers.term & (!timers.connreq & !timers.nochannel)),
-        State::U4 => !timers.mmest & (!timers.term & (timers.connreq & !timers.nochannel)),
-        State::U5 => !timers.mmest & (!timers.connreq & !timers.nochannel),
-        State::U6 => !timers.mmest & (!timers.term & (!timers.connreq & true)),
-    }
-}
-
-// Whether everything beside the state is as in the cleared context.
-fn is_cleared(context: Context) -> bool
-    ensures { λ r. ⌜ r ≡ isCleared context ⌝ }
-{
-    let parameters = context.parameters;
-    let timers = context.timers;
-    let reference = context.reference;
-    let none_set = !parameters.orig & (!parameters.comm & (!parameters.datt & !parameters.uatt));
-    let none_runs = !timers.mmest & (!timers.term & (!timers.connreq & !timers.nochannel));
-    let zero = (reference.first == 0)
-        & ((reference.second == 0) & ((reference.third == 0) & (reference.fourth == 0)));
-    none_set & (none_runs & ((context.value == 0) & zero))
-}
-
-// Whether the context is one that a call can be in. What U0 alone asks is looked at in U0 alone.
-pub fn is_fit(context: Context) -> bool
-    ensures { λ r. ⌜ r ≡ fitOf context ⌝ }
-{
-    let state = context.state;
-    let timers = context.timers;
-    if !fits_state(state, context.parameters.orig, context.parameters.comm) {
-        return false;
-    }
-    if 6 < context.value {
-        return false;
-    }
-    if state_number(state) == 0 {
-        return is_cleared(context) & timers_fit(state, timers);
-    }
-    timers_fit(state, timers)
-}
-
-// The number of the timer that runs: 1 T_MM-est, 2 T_term, 3 T_conn req, 4 T_no channel, 0 none.
-pub fn running_timer(context: Context) -> u8
-    ensures { λ r. ⌜ r ≡ runs context ⌝ }
-{
-    let timers = context.timers;
-    if timers.mmest {
-        return 1;
-    }
-    if timers.term {
-        return 2;
-    }
-    if timers.connreq {
-        return 3;
-    }
-    if timers.nochannel {
-        return 4;
-    }
-    0
-}
-
-// The number of the timer whose expiry an event is, 0 where it is none.
-pub fn expired_timer(event: u32) -> u8
-    ensures { λ r. ⌜ r ≡ expiryOf event ⌝ }
-{
-    match event {
-        14 => 1,
-        15 => 2,
-        16 => 3,
-        17 => 4,
-        _ => 0,
-    }
-}
-
-// The length of the timer of a number, in milliseconds, where the joining timer is set to `joining`; 0 for no timer.
-pub fn timer_length(joining: u32, timer: u8) -> u32
-    ensures { λ r. ⌜ r ≡ lengthOf joining timer ⌝ }
-{
-    match timer {
-        1 => Timers::MM_EST,
-        2 => Timers::TERM,
-        3 => joining,
-        4 => Timers::NO_CHANNEL,
-        _ => 0,
     }
 }

@@ -4,8 +4,8 @@ ghost use Rattle.context_octets.specs.Octets.{contextOf, fourNumber, isK
 use codes::attributes::Parameters;
 use codes::state::State;
 use context::Context;
-use context::Timers;
 use message::Reference;
+use timer::Timers;
 
 // What sixteen octets are.
 pub enum Reading {

@@ -1,5 +1,3 @@
-pub mod Configuring
-pub mod Judging
+pub mod Hosting
 pub mod Numbering
 pub mod Recording
-pub mod Stepping

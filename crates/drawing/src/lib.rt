@@ -2,7 +2,28 @@
 use fields::octet_at;
 use saying::write_long;
 use saying::write_text;
+use text::words::find;
 use text::words::part;
+
+// A text in which each `#` stands for the next number.
+pub fn write_form(descriptor: i32, form: &[u8], numbers: &[u64]) {
+    let mut at = 0;
+    let mut turns: usize = 0;
+    while turns < numbers.len() {
+        at = write_piece(descriptor, form, at);
+        write_long(descriptor, numbers[turns]);
+        turns += 1;
+    }
+    write_piece(descriptor, form, at);
+}
+
+// What stands from a place up to the next `#`; answers the place behind it.
+fn write_piece(descriptor: i32, form: &[u8], at: usize) -> usize {
+    let rest = part(form, at, std::num::wrapping_sub_usize(form.len(), at));
+    let count = find(rest, b'#');
+    write_text(descriptor, part(rest, 0, count));
+    std::num::wrapping_add_usize(at, std::num::wrapping_add_usize(count, 1))
+}
 
 // An attribute; `name` comes with the space before it and the `="` behind it.
 pub fn attribute(descriptor: i32, name: &[u8], value: u64) {
@@ -19,18 +40,17 @@ pub fn finish(descriptor: i32) {
 // An element's start and its class.
 fn begin(descriptor: i32, element: &[u8], class: &[u8]) {
     write_text(descriptor, element);
-    write_text(descriptor, b" class=\"");
     write_text(descriptor, class);
-    write_text(descriptor, b"\"");
 }
 
 // A rectangle that further attributes and `finish` may follow.
 pub fn begin_rectangle(descriptor: i32, class: &[u8], x: u64, y: u64, width: u64, height: u64) {
-    begin(descriptor, b"<rect", class);
-    attribute(descriptor, b" x=\"", x);
-    attribute(descriptor, b" y=\"", y);
-    attribute(descriptor, b" width=\"", width);
-    attribute(descriptor, b" height=\"", height);
+    begin(descriptor, b"<rect class=\"", class);
+    write_form(
+        descriptor,
+        b"\" x=\"#\" y=\"#\" width=\"#\" height=\"#\"",
+        &[x, y, width, height],
+    );
 }
 
 pub fn rectangle(descriptor: i32, class: &[u8], x: u64, y: u64, width: u64, height: u64) {
@@ -39,41 +59,36 @@ pub fn rectangle(descriptor: i32, class: &[u8], x: u64, y: u64, width: u64, heig
 }
 
 pub fn line(descriptor: i32, class: &[u8], x: u64, y: u64, to_x: u64, to_y: u64) {
-    begin(descriptor, b"<line", class);
-    attribute(descriptor, b" x1=\"", x);
-    attribute(descriptor, b" y1=\"", y);
-    attribute(descriptor, b" x2=\"", to_x);
-    attribute(descriptor, b" y2=\"", to_y);
-    finish(descriptor);
+    begin(descriptor, b"<line class=\"", class);
+    write_form(
+        descriptor,
+        b"\" x1=\"#\" y1=\"#\" x2=\"#\" y2=\"#\"/>\n",
+        &[x, y, to_x, to_y],
+    );
 }
 
 // A shape that starts at a place; `steps` are the rest of its path.
 pub fn shape(descriptor: i32, class: &[u8], x: u64, y: u64, steps: &[u8]) {
-    begin(descriptor, b"<path", class);
-    write_text(descriptor, b" d=\"M");
-    write_long(descriptor, x);
-    write_text(descriptor, b" ");
-    write_long(descriptor, y);
+    begin(descriptor, b"<path class=\"", class);
+    write_form(descriptor, b"\" d=\"M# #", &[x, y]);
     write_text(descriptor, steps);
     write_text(descriptor, b"\"/>\n");
 }
 
 // Words whose line starts, or has its middle, at a place; `end_text` follows them.
 pub fn begin_text(descriptor: i32, class: &[u8], x: u64, y: u64) {
-    begin(descriptor, b"<text", class);
-    attribute(descriptor, b" x=\"", x);
-    attribute(descriptor, b" y=\"", y);
-    write_text(descriptor, b">");
+    begin(descriptor, b"<text class=\"", class);
+    write_form(descriptor, b"\" x=\"#\" y=\"#\">", &[x, y]);
 }
 
 // The same from below to above.
 pub fn begin_upright_text(descriptor: i32, class: &[u8], x: u64, y: u64) {
-    begin(descriptor, b"<text", class);
-    write_text(descriptor, b" transform=\"translate(");
-    write_long(descriptor, x);
-    write_text(descriptor, b" ");
-    write_long(descriptor, y);
-    write_text(descriptor, b") rotate(-90)\">");
+    begin(descriptor, b"<text class=\"", class);
+    write_form(
+        descriptor,
+        b"\" transform=\"translate(# #) rotate(-90)\">",
+        &[x, y],
+    );
 }
 
 pub fn end_text(descriptor: i32) {

@@ -2,8 +2,6 @@
 // A program has no exit status, so the last line on standard output is its verdict: `verdict 0` fine, `verdict 1` refused,
 // `verdict 2` could not run. bin/heidezirkel turns it into the exit status. What concerns misuse goes to standard error.
 mod arguments;
-mod input;
-mod probe;
 
 use arguments::join;
 use help_words::asks_help;
@@ -11,34 +9,13 @@ use help_words::complain_help;
 use help_words::complain_unknown;
 use help_words::tell_help;
 use help_words::tell_word_help;
-use input::line_room;
-use input::octets_room;
-use input::stream;
 use message_words::tell_apart;
+use probe_words::run_probe;
 use saying::complain;
-use saying::flush;
 use saying::tell_verdict;
 use text::hex::read_hex;
 use text::words::part;
 use text::words::same;
-
-fn run_probe() -> u8 {
-    if os::arg_count() != 2 {
-        complain(b"heidezirkel probe: takes no arguments; commands come on standard input\n");
-        return 2;
-    }
-    let mut lines = line_room();
-    let mut octets = octets_room();
-    let mut buffer = io::large_buffer();
-    let end = stream(&mut lines, &mut octets, &mut buffer);
-    let output = end.output;
-    flush(&buffer, output);
-    if end.stop == 1 {
-        return 0;
-    }
-    complain(b"heidezirkel probe: standard input can't be read\n");
-    2
-}
 
 fn run_message() -> u8 {
     if os::arg_count() < 3 {

@@ -1,7 +1,2 @@
-pub mod Timing
-pub mod Claiming
-pub mod Explaining
-pub mod Refusing
-pub mod Mirror
-pub mod Walk
+pub mod Reading
 pub mod Coincide

@@ -1,1 +1,1 @@
-pub mod Turn
+pub mod Answer

@@ -10,7 +10,7 @@ use reply::Own;
 use saying::tell;
 use saying::tell_count;
 use saying::tell_place;
-use settings::Settings;
+use settings_values::Settings;
 use text::words::part;
 use verdict::Judged;
 

@@ -1,6 +1,9 @@
 -- What a message says: the message with the octets of its runs in the place of where they lie.
-use Prim.Native.Nat.{ℕ}
+use Prim.Native.Nat.{ℕ, _+_}
 use mathlib.Core.List.{List, [], _∷_}
+use mathlib.Core.Bool.{Bool, true}
+use lib.ListN.{length}
+use lib.Dec.{leb}
 use Rattle.octets.specs.Run.{part}
 use Rattle.element.specs.declared.Run.{Run}
 use Rattle.message.specs.declared.Reference.{Reference}
@@ -57,6 +60,23 @@ contentOf s (Status cause state attributes) = status (runOctets s cause) state a
 contentOf s (Termination cause) = termination (runOctets s cause)
 contentOf s (TerminationReject cause) = terminationReject (runOctets s cause)
 contentOf s (TerminationRequest reference) = terminationRequest reference
+
+-- The run lies within `s`.
+unfoldable pub lies : List ℕ → Run → Bool
+lies s run = leb (run .start + run .count) (length s)
+
+-- Each run of the message lies within `s`.
+abbrev pub runsLie : List ℕ → Message → Bool
+runsLie s (Connect reference originator) = true
+runsLie s (GetStatus Absent) = true
+runsLie s (GetStatus (Present identity)) = lies s identity
+runsLie s (ImmediateSetup key classmark identity reference) = lies s identity
+runsLie s (SetParameter attributes) = true
+runsLie s (Setup reference) = true
+runsLie s (Status cause state attributes) = lies s cause
+runsLie s (Termination cause) = lies s cause
+runsLie s (TerminationReject cause) = lies s cause
+runsLie s (TerminationRequest reference) = true
 
 abbrev pub referenceOctets : Reference → List ℕ
 referenceOctets r = r .first ∷ r .second ∷ r .third ∷ r .fourth ∷ []

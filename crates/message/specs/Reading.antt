@@ -1,7 +1,7 @@
--- What reading a message gives, as a function of its octets, by places counted from 0.
+-- What reading a message gives, as a function of its octets: the parts that messages are made of, then tables 8.1 to 8.9 in their order, then the first two octets.
 -- Document 01, "Received messages": type bit 7 is read as anything; two half octets: the first named takes bits 1 to 4; spare halves and bits are read as anything;
 -- a mandatory part is wrong only if it is cut short or a length octet lies outside what its table draws; any code in it passes.
-use Prim.Native.Nat.{ℕ, _+_, _/_, _%_}
+use Prim.Native.Nat.{ℕ, _+_, _-_, _/_, _%_}
 use mathlib.Core.List.{List, [], _∷_}
 use mathlib.Core.Bool.{Bool, cond}
 use lib.ListN.{length, getD}
@@ -58,6 +58,15 @@ use Rattle.message.specs.declared.Body.the-variants.{Is, Wrong}
 use Rattle.message.specs.declared.Reading.{Reading}
 use Rattle.message.specs.declared.Reading.the-variants.{Is as Reads, Unreadable, TooLong}
 
+-- ---- the parts of a message
+
+-- The papers count a message's octets from 1, and places in a list are counted from 0: octet `n` stands at `place n`.
+abbrev pub place : ℕ → ℕ
+place n = n - 1
+
+abbrev pub octet : ℕ → List ℕ → ℕ
+octet n s = getD s (place n) 0
+
 abbrev pub referenceAt : List ℕ → ℕ → Reference
 referenceAt s at = record {
   first = getD s at 0;
@@ -73,24 +82,20 @@ classmarkAt s at = record { first = getD s at 0; second = getD s (at + 1) 0; thi
 abbrev pub behind : Run → ℕ
 behind run = run .start + run .count
 
--- An element whose identifier has bits 8 to 5 all zero must be known.
-abbrev pub unlessKnown : Message → Found → Body
-unlessKnown message Nothing = Is message
-unlessKnown message (At place identifier) = Wrong (MustBeKnown place identifier)
-
--- A message whose mandatory part ends before `end`: the part is there, and no element behind it must be known.
-unfoldable pub wholeOf : List ℕ → ℕ → Message → Body
-wholeOf s end message = cond (leb end (length s)) (unlessKnown message (elementFrom s end 0 15)) (Wrong CutShort)
-
 -- What `go` makes of the run that the length octet at `at` counts.
 abbrev pub onCounted : ℕ → (Run → Body) → Counted → Body
 onCounted at go (Octets run) = go run
 onCounted at go CountedShort = Wrong CutShort
 onCounted at go CountedWrong = Wrong (WrongLength at)
 
--- Table 8.1: CONNECT. Of the originator indication bit 1 alone is read.
-unfoldable pub connectOf : List ℕ → Body
-connectOf s = wholeOf s 7 (Connect (referenceAt s 2) (getD s 6 0 % 2))
+-- An element whose identifier has bits 8 to 5 all zero must be known.
+abbrev pub unlessKnown : Message → Found → Body
+unlessKnown message Nothing = Is message
+unlessKnown message (At at identifier) = Wrong (MustBeKnown at identifier)
+
+-- A message whose mandatory part is its first `end` octets: they are there, and no element behind them must be known.
+unfoldable pub wholeOf : List ℕ → ℕ → Message → Body
+wholeOf s end message = cond (leb end (length s)) (unlessKnown message (elementFrom s end 0 15)) (Wrong CutShort)
 
 -- Optional identity: value 1 to 8 octets, else absent.
 abbrev pub ifCounted : Counted → Identity
@@ -99,68 +104,78 @@ ifCounted CountedShort = Absent
 ifCounted CountedWrong = Absent
 
 unfoldable pub identityBehind : List ℕ → ℕ → Identity
-identityBehind s place = ifCounted (countedAt s (place + 1) 1 8)
+identityBehind s at = ifCounted (countedAt s (at + 1) 1 8)
 
 abbrev pub identityFound : List ℕ → Found → Identity
 identityFound s Nothing = Absent
-identityFound s (At place identifier) = identityBehind s place
-
--- Table 8.2: GET STATUS. Identifier 17 hexadecimal; its first appearance alone decides.
-unfoldable pub getStatusOf : List ℕ → Body
-getStatusOf s = wholeOf s 2 (GetStatus (identityFound s (elementFrom s 2 0x17 0x17)))
-
--- Table 8.3: IMMEDIATE SETUP. The spare half octet, named first, is bits 1 to 4; the key number is the three bits above.
-abbrev pub immediateReferenceOf : List ℕ → Run → Body
-immediateReferenceOf s identity =
-    wholeOf s (behind identity + 4)
-    (ImmediateSetup (getD s 2 0 / 16 % 8) (classmarkAt s 4) identity (referenceAt s (behind identity)))
-
-unfoldable pub immediateIdentityOf : List ℕ → Body
-immediateIdentityOf s = onCounted 7 (immediateReferenceOf s) (countedAt s 7 1 8)
-
-unfoldable pub immediateSetupOf : List ℕ → Body
-immediateSetupOf s = onCounted 3 (λ classmark. immediateIdentityOf s) (countedAt s 3 3 3)
-
--- Table 8.4: SET PARAMETER.
-unfoldable pub setParameterOf : List ℕ → Body
-setParameterOf s = wholeOf s 3 (SetParameter (getD s 2 0 % 16))
-
--- Table 8.5: SETUP.
-unfoldable pub setupOf : List ℕ → Body
-setupOf s = wholeOf s 6 (Setup (referenceAt s 2))
+identityFound s (At at identifier) = identityBehind s at
 
 abbrev pub halfFound : Found → Half
 halfFound Nothing = NoHalf
-halfFound (At place identifier) = IsHalf (identifier % 16)
+halfFound (At at identifier) = IsHalf (identifier % 16)
 
 -- The first element from `at` on with this upper half: its lower half.
 unfoldable pub halfAt : List ℕ → ℕ → ℕ → Half
 halfAt s at low = halfFound (elementFrom s at low (low + 15))
 
--- Table 8.6: STATUS. Call state and state attributes: either may be absent, and the first of each is read, in any order.
+-- ---- the tables, in their order
+
+-- Table 8.1: CONNECT. Octets 3 to 6 are the reference. Octet 7: the originator indication, of which bit 1 alone is read, and the spare half.
+unfoldable pub connectOf : List ℕ → Body
+connectOf s = wholeOf s 7 (Connect (referenceAt s (place 3)) (octet 7 s % 2))
+
+-- Table 8.2: GET STATUS. Two octets, and the optional identity, 17 hexadecimal; its first appearance alone decides.
+unfoldable pub getStatusOf : List ℕ → Body
+getStatusOf s = wholeOf s 2 (GetStatus (identityFound s (elementFrom s (place 3) 0x17 0x17)))
+
+-- Table 8.3: IMMEDIATE SETUP. Octet 3: the spare half, named first, is bits 1 to 4, and the key number the three bits above. Octet 4 counts the classmark,
+-- octets 5 to 7. Octet 8 counts the identity, from octet 9 on; the four octets behind that are the reference.
+abbrev pub immediateReferenceOf : List ℕ → Run → Body
+immediateReferenceOf s identity =
+    wholeOf s (behind identity + 4)
+    (ImmediateSetup (octet 3 s / 16 % 8) (classmarkAt s (place 5)) identity (referenceAt s (behind identity)))
+
+unfoldable pub immediateIdentityOf : List ℕ → Body
+immediateIdentityOf s = onCounted (place 8) (immediateReferenceOf s) (countedAt s (place 8) 1 8)
+
+unfoldable pub immediateSetupOf : List ℕ → Body
+immediateSetupOf s = onCounted (place 4) (λ classmark. immediateIdentityOf s) (countedAt s (place 4) 3 3)
+
+-- Table 8.4: SET PARAMETER. Octet 3: the state attributes, bits 1 to 4, and the spare half.
+unfoldable pub setParameterOf : List ℕ → Body
+setParameterOf s = wholeOf s 3 (SetParameter (octet 3 s % 16))
+
+-- Table 8.5: SETUP. Octets 3 to 6 are the reference.
+unfoldable pub setupOf : List ℕ → Body
+setupOf s = wholeOf s 6 (Setup (referenceAt s (place 3)))
+
+-- Table 8.6: STATUS. Octet 3 counts the cause, from octet 4 on. Behind it call state and state attributes: either may be absent, and the first of each is
+-- read, in any order.
 abbrev pub statusBehind : List ℕ → Run → Body
 statusBehind s cause = wholeOf s (behind cause) (Status cause (halfAt s (behind cause) 0xA0) (halfAt s (behind cause) 0xB0))
 
 unfoldable pub statusOf : List ℕ → Body
-statusOf s = onCounted 2 (statusBehind s) (countedAt s 2 1 247)
+statusOf s = onCounted (place 3) (statusBehind s) (countedAt s (place 3) 1 247)
 
--- Table 8.7: TERMINATION.
+-- Table 8.7: TERMINATION. Octet 3 counts the cause, from octet 4 on.
 abbrev pub terminationBehind : List ℕ → Run → Body
 terminationBehind s cause = wholeOf s (behind cause) (Termination cause)
 
 unfoldable pub terminationOf : List ℕ → Body
-terminationOf s = onCounted 2 (terminationBehind s) (countedAt s 2 1 247)
+terminationOf s = onCounted (place 3) (terminationBehind s) (countedAt s (place 3) 1 247)
 
--- Table 8.8: TERMINATION REJECT.
+-- Table 8.8: TERMINATION REJECT. Octet 3 counts the cause, from octet 4 on.
 abbrev pub terminationRejectBehind : List ℕ → Run → Body
 terminationRejectBehind s cause = wholeOf s (behind cause) (TerminationReject cause)
 
 unfoldable pub terminationRejectOf : List ℕ → Body
-terminationRejectOf s = onCounted 2 (terminationRejectBehind s) (countedAt s 2 1 247)
+terminationRejectOf s = onCounted (place 3) (terminationRejectBehind s) (countedAt s (place 3) 1 247)
 
--- Table 8.9: TERMINATION REQUEST.
+-- Table 8.9: TERMINATION REQUEST. Octets 3 to 6 are the reference.
 unfoldable pub terminationRequestOf : List ℕ → Body
-terminationRequestOf s = wholeOf s 6 (TerminationRequest (referenceAt s 2))
+terminationRequestOf s = wholeOf s 6 (TerminationRequest (referenceAt s (place 3)))
+
+-- ---- the first two octets
 
 -- 9.3, table 9.1: the message of a type, without bits 7 and 8.
 abbrev pub kinds : List ℕ → List (ℕ × Body)
@@ -184,11 +199,12 @@ readAs flag value (Is message) = Reads flag value message
 readAs flag value (Wrong fault) = Unreadable fault
 
 -- Document 01, "Answer numbers", message reading alone: over 251 octets, else the first fault, else flag, transaction value 0 to 7 and the message.
+-- Octet 1: the discriminator is bits 1 to 4, the transaction value bits 5 to 7, the flag bit 8. Octet 2, the type: bit 8 set is no type, bit 7 is read as anything.
 unfoldable pub readMessage : List ℕ → Reading
 readMessage s =
     cond (ltb 251 (length s)) TooLong
     (cond (ltb (length s) 2) (Unreadable TooShort)
-    (cond (eqb (getD s 0 0 % 16) discriminator)
-    (cond (leb 128 (getD s 1 0)) (Unreadable UnknownType)
-    (readAs (leb 128 (getD s 0 0)) (getD s 0 0 / 16 % 8) (bodyOf s (getD s 1 0 % 64))))
+    (cond (eqb (octet 1 s % 16) discriminator)
+    (cond (leb 128 (octet 2 s)) (Unreadable UnknownType)
+    (readAs (leb 128 (octet 1 s)) (octet 1 s / 16 % 8) (bodyOf s (octet 2 s % 64))))
     (Unreadable Discriminator)))

@@ -27,10 +27,18 @@ use crate::Half;
 use crate::Identity;
 use crate::Message;
 use crate::Reference;
+use codes::message_type;
 use element::Counted;
 use element::Found;
 use element::counted_at;
 use element::seek;
+
+// How many octets a mobile identity and a cause have behind their length octet.
+const LEAST: u8 = 1;
+
+const IDENTITY_MOST: u8 = 8;
+
+const CAUSE_MOST: u8 = 247;
 
 // The reference at a place.
 fn reference_at(octets: &[u8], at: usize) -> Reference
@@ -94,7 +102,7 @@ fn identity_behind(octets: &[u8], place: usize) -> Identity
     requires { ⌜ place + 1 ≤ length (now octets) ⌝ }
     ensures { λ r. ⌜ r ≡ identityBehind (now (octets .entry)) place ⌝ }
 {
-    match counted_at(octets, place + 1, 1, 8) {
+    match counted_at(octets, place + 1, LEAST, IDENTITY_MOST) {
         Counted::Octets(run) => Identity::Present(run),
         Counted::CutShort => Identity::Absent,
         Counted::WrongLength => Identity::Absent,
@@ -127,7 +135,7 @@ fn read_immediate_identity(octets: &[u8]) -> Body
 {
     let key = octets[2] / 16 % 8;
     let classmark = classmark_at(octets, 4);
-    match counted_at(octets, 7, 1, 8) {
+    match counted_at(octets, 7, LEAST, IDENTITY_MOST) {
         Counted::Octets(identity) => {
             let end = identity.start + identity.count;
             if octets.len() - end < 4 {
@@ -198,7 +206,7 @@ fn half_at(octets: &[u8], at: usize, low: u8) -> Half
 fn read_status(octets: &[u8]) -> Body
     ensures { λ r. ⌜ r ≡ statusOf (now (octets .entry)) ⌝ }
 {
-    match counted_at(octets, 2, 1, 247) {
+    match counted_at(octets, 2, LEAST, CAUSE_MOST) {
         Counted::Octets(cause) => {
             let end = cause.start + cause.count;
             let state = half_at(octets, end, 0xa0);
@@ -222,7 +230,7 @@ fn read_status(octets: &[u8]) -> Body
 fn read_termination(octets: &[u8]) -> Body
     ensures { λ r. ⌜ r ≡ terminationOf (now (octets .entry)) ⌝ }
 {
-    match counted_at(octets, 2, 1, 247) {
+    match counted_at(octets, 2, LEAST, CAUSE_MOST) {
         Counted::Octets(cause) => {
             let end = cause.start + cause.count;
             whole(octets, end, Message::Termination { cause })
@@ -236,7 +244,7 @@ fn read_termination(octets: &[u8]) -> Body
 fn read_termination_reject(octets: &[u8]) -> Body
     ensures { λ r. ⌜ r ≡ terminationRejectOf (now (octets .entry)) ⌝ }
 {
-    match counted_at(octets, 2, 1, 247) {
+    match counted_at(octets, 2, LEAST, CAUSE_MOST) {
         Counted::Octets(cause) => {
             let end = cause.start + cause.count;
             whole(octets, end, Message::TerminationReject { cause })
@@ -257,20 +265,20 @@ fn read_termination_request(octets: &[u8]) -> Body
     whole(octets, 6, Message::TerminationRequest { reference })
 }
 
-// The message of a type code without bits 7 and 8, table 9.1.
+// The message of a type without bits 7 and 8, table 9.1; the ranges are the codes that the table leaves unused.
 pub(crate) fn read_body(octets: &[u8], kind: u8) -> Body
     ensures { λ r. ⌜ r ≡ bodyOf (now (octets .entry)) kind ⌝ }
 {
     match kind {
-        0x31 => read_immediate_setup(octets),
-        0x32 => read_setup(octets),
-        0x33 => read_connect(octets),
-        0x34 => read_termination(octets),
-        0x35 => read_termination_request(octets),
-        0x36 => read_termination_reject(octets),
-        0x38 => read_status(octets),
-        0x39 => read_get_status(octets),
-        0x3a => read_set_parameter(octets),
+        message_type::IMMEDIATE_SETUP => read_immediate_setup(octets),
+        message_type::SETUP => read_setup(octets),
+        message_type::CONNECT => read_connect(octets),
+        message_type::TERMINATION => read_termination(octets),
+        message_type::TERMINATION_REQUEST => read_termination_request(octets),
+        message_type::TERMINATION_REJECT => read_termination_reject(octets),
+        message_type::STATUS => read_status(octets),
+        message_type::GET_STATUS => read_get_status(octets),
+        message_type::SET_PARAMETER => read_set_parameter(octets),
         0..=0x30 | 0x37..=0x37 | 0x3b..=0xff => Body::Wrong(Fault::UnknownType),
     }
 }

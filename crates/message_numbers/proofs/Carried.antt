@@ -51,7 +51,7 @@ use Rattle.message.specs.Content.{
   classmarkOctets,
 }
 use Rattle.message.specs.Tables.{typeOf}
-use Rattle.writing.proofs.Tests.{and-left, and-right}
+use Rattle.limits.proofs.Tests.{and-left, and-right}
 use Rattle.message_numbers.specs.declared.Optional.{Optional}
 use Rattle.message_numbers.specs.declared.Place.{Place}
 use Rattle.message_numbers.specs.declared.Numbers.{Numbers}

@@ -1,26 +1,11 @@
 -- The numbers of a message, taken back, are that message; and so are those of every message that was read.
-use Prim.Native.Nat.{ℕ, _+_, _/_, _%_, _≤_}
-use mathlib.Core.Path.{_≡_, refl, ap, subst, _∙_}
+use Prim.Native.Nat.{ℕ, _+_, _≤_}
+use mathlib.Core.Path.{_≡_, refl, ap, _∙_}
 use mathlib.Core.List.{List}
-use mathlib.Core.Bool.{Bool, true, false, cond}
+use mathlib.Core.Bool.{Bool, true, false}
 use native.Mathlib.Omega.{arith}
-use lib.ListN.{length, getD}
-use lib.Dec.{leb, ltb, eqb}
+use lib.Dec.{leb, eqb}
 use borrow.Author.Tests.{ne-eqb}
-use Rattle.octets.proofs.Choice.{at-cond}
-use Rattle.codes.specs.MessageTypes.{
-  IMMEDIATE-SETUP,
-  SETUP,
-  CONNECT,
-  TERMINATION,
-  TERMINATION-REQUEST,
-  TERMINATION-REJECT,
-  STATUS,
-  GET-STATUS,
-  SET-PARAMETER,
-  discriminator,
-}
-use Rattle.element.specs.declared.Run.{Run}
 use Rattle.element.specs.declared.Found.{Found}
 use Rattle.element.specs.declared.Found.the-variants.{At, Nothing as NotFound}
 use Rattle.element.specs.declared.Counted.{Counted}
@@ -43,40 +28,9 @@ use Rattle.message.specs.declared.Message.the-variants.{
   TerminationReject,
   TerminationRequest,
 }
-use Rattle.message.specs.declared.Fault.the-variants.{UnknownType}
-use Rattle.message.specs.declared.Body.{Body}
-use Rattle.message.specs.declared.Body.the-variants.{Is as IsBody, Wrong}
-use Rattle.message.specs.declared.Reading.{Reading}
-use Rattle.message.specs.declared.Reading.the-variants.{Is as Reads, Unreadable, TooLong}
-use Rattle.message.specs.Reading.{
-  referenceAt,
-  classmarkAt,
-  behind,
-  unlessKnown,
-  wholeOf,
-  onCounted,
-  ifCounted,
-  identityBehind,
-  identityFound,
-  halfAt,
-  connectOf,
-  getStatusOf,
-  immediateReferenceOf,
-  immediateIdentityOf,
-  immediateSetupOf,
-  setParameterOf,
-  setupOf,
-  statusBehind,
-  statusOf as statusRead,
-  terminationBehind,
-  terminationOf,
-  terminationRejectBehind,
-  terminationRejectOf,
-  terminationRequestOf,
-  bodyOf,
-  readAs,
-  readMessage,
-}
+use Rattle.message.specs.declared.Reading.the-variants.{Is as Reads}
+use Rattle.message.specs.Reading.{ifCounted, identityBehind, identityFound, readMessage}
+use Rattle.message.proofs.Each.{Each, of-read}
 use Rattle.message_numbers.specs.declared.Meant.the-variants.{Is}
 use Rattle.message_numbers.specs.Numbers.{flagNumber, numbersOf, statusOf, kindOf, messageOf}
 use Rattle.message_numbers.specs.Back.{Shown, Means}
@@ -127,23 +81,6 @@ taken-back f v m h =
 
 -- An optional identity that was read has an octet at least.
 module _ (s : List ℕ) where
-  abbrev ShownBody : Body → Type 0
-  ShownBody (IsBody m) = Shown m
-  ShownBody (Wrong fault) = Unit {0}
-
-  known : (m : Message) (found : Found) → Shown m → ShownBody (unlessKnown m found)
-  known m NotFound h = h
-  known m (At place identifier) h = tt
-
-  whole : (end : ℕ) (m : Message) → Shown m → ShownBody (wholeOf s end m)
-  unfolding wholeOf
-  whole end m h = at-cond ShownBody (leb end (length s)) (unlessKnown m (elementFrom s end 0 15)) _ (λ e. known m (elementFrom s end 0 15) h) (λ e. tt)
-
-  counts : (at : ℕ) (go : Run → Body) (c : Counted) → ((r : Run) → ShownBody (go r)) → ShownBody (onCounted at go c)
-  counts at go (Octets r) h = h r
-  counts at go CountedShort h = tt
-  counts at go CountedWrong h = tt
-
   identities : (at : ℕ) (c : Counted) → Counts s at 1 8 c → Shown (GetStatus (ifCounted c))
   identities at (Octets r) t = within-says (r .count) 1 8 (t .within) .0
   identities at CountedShort t = tt
@@ -152,60 +89,21 @@ module _ (s : List ℕ) where
   identity : (found : Found) → Shown (GetStatus (identityFound s found))
   unfolding identityBehind
   identity NotFound = tt
-  identity (At place identifier) = identities (place + 1) (countedAt s (place + 1) 1 8) (counted-told s (place + 1) 1 8)
+  identity (At at identifier) = identities (at + 1) (countedAt s (at + 1) 1 8) (counted-told s (at + 1) 1 8)
 
-  body : (kind : ℕ) → ShownBody (bodyOf s kind)
-  unfolding
-      bodyOf
-      connectOf
-      getStatusOf
-      immediateSetupOf
-      immediateIdentityOf
-      setParameterOf
-      setupOf
-      statusRead
-      terminationOf
-      terminationRejectOf
-      terminationRequestOf
-  body kind =
-      at-cond ShownBody (eqb kind IMMEDIATE-SETUP) (immediateSetupOf s) _
-      (λ e. counts 3 (λ classmark. immediateIdentityOf s) (countedAt s 3 3 3)
-      (λ c. counts 7 (immediateReferenceOf s) (countedAt s 7 1 8)
-      (λ r. whole (behind r + 4) (ImmediateSetup (getD s 2 0 / 16 % 8) (classmarkAt s 4) r (referenceAt s (behind r))) tt)))
-      λ e. at-cond ShownBody (eqb kind SETUP) (setupOf s) _ (λ e. whole 6 (Setup (referenceAt s 2)) tt)
-      λ e. at-cond ShownBody (eqb kind CONNECT) (connectOf s) _ (λ e. whole 7 (Connect (referenceAt s 2) (getD s 6 0 % 2)) tt)
-      λ e. at-cond ShownBody (eqb kind TERMINATION) (terminationOf s) _
-      (λ e. counts 2 (terminationBehind s) (countedAt s 2 1 247) (λ r. whole (behind r) (Termination r) tt))
-      λ e. at-cond ShownBody (eqb kind TERMINATION-REQUEST) (terminationRequestOf s) _ (λ e. whole 6 (TerminationRequest (referenceAt s 2)) tt)
-      λ e. at-cond ShownBody (eqb kind TERMINATION-REJECT) (terminationRejectOf s) _
-      (λ e. counts 2 (terminationRejectBehind s) (countedAt s 2 1 247) (λ r. whole (behind r) (TerminationReject r) tt))
-      λ e. at-cond ShownBody (eqb kind STATUS) (statusRead s) _
-      (λ e. counts 2 (statusBehind s) (countedAt s 2 1 247)
-      (λ r. whole (behind r) (Status r (halfAt s (behind r) 0xA0) (halfAt s (behind r) 0xB0)) tt))
-      λ e. at-cond ShownBody (eqb kind GET-STATUS) (getStatusOf s) _
-      (λ e. whole 2 (GetStatus (identityFound s (elementFrom s 2 0x17 0x17))) (identity (elementFrom s 2 0x17 0x17)))
-      λ e. at-cond ShownBody (eqb kind SET-PARAMETER) (setParameterOf s) (Wrong UnknownType)
-      (λ e. whole 3 (SetParameter (getD s 2 0 % 16)) tt) (λ e. tt)
-
-  abbrev ShownReading : Reading → Type 0
-  ShownReading (Reads f v m) = Shown m
-  ShownReading (Unreadable fault) = Unit {0}
-  ShownReading TooLong = Unit {0}
-
-  reads : (f : Bool) (v : ℕ) (b : Body) → ShownBody b → ShownReading (readAs f v b)
-  reads f v (IsBody m) h = h
-  reads f v (Wrong fault) h = tt
-
-  reading : ShownReading (readMessage s)
-  unfolding readMessage
-  reading =
-      at-cond ShownReading (ltb 251 (length s)) _ _ (λ e. tt) λ e.
-      at-cond ShownReading (ltb (length s) 2) _ _ (λ e. tt) λ e.
-      at-cond ShownReading (eqb (getD s 0 0 % 16) discriminator) _ _
-      (λ e. at-cond ShownReading (leb 128 (getD s 1 0)) _ _ (λ e. tt)
-      (λ e. reads _ _ (bodyOf s (getD s 1 0 % 64)) (body (getD s 1 0 % 64))))
-      (λ e. tt)
+  each : Each s Shown
+  each = record {
+    connect = tt;
+    getStatus = identity (elementFrom s 2 0x17 0x17);
+    immediateSetup = λ r l. tt;
+    setParameter = tt;
+    setup = tt;
+    status = λ r l. tt;
+    termination = λ r l. tt;
+    terminationReject = λ r l. tt;
+    terminationRequest = tt;
+  }
 
   -- The numbers of every message that was read, taken back, are that message.
   pub read-taken-back : (f : Bool) (v : ℕ) (m : Message) → readMessage s ≡ Reads f v m → Means (numbersOf f v m) f v m
-  read-taken-back f v m e = taken-back f v m (subst ShownReading e reading)
+  read-taken-back f v m e = taken-back f v m (of-read s Shown (λ few. each) f v m e)

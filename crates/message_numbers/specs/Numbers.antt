@@ -72,110 +72,45 @@ noThree = record { first = 0; second = 0; third = 0 }
 abbrev pub noFour : Four
 noFour = record { first = 0; second = 0; third = 0; fourth = 0 }
 
-abbrev pub blank : ℕ → ℕ → ℕ → Numbers
-blank kind flag value = record {
-  kind = kind;
-  flag = flag;
-  value = value;
-  key = 0;
-  classmark = noThree;
-  reference = noFour;
-  originator = 0;
-  state = optionalOf Absent;
-  attributes = optionalOf Absent;
-  identity = nowhere;
-  cause = nowhere;
-}
+abbrev pub unsaid : Optional
+unsaid = optionalOf Absent
 
--- A type, a reference and an originator indication.
-abbrev pub referring : ℕ → ℕ → ℕ → Reference → ℕ → Numbers
-referring kind flag value reference originator = record {
+-- A message's numbers, in the order of the struct's fields.
+abbrev pub numbers : ℕ → ℕ → ℕ → ℕ → Three → Four → ℕ → Optional → Optional → Place → Place → Numbers
+numbers kind flag value key classmark reference originator state attributes identity cause = record {
   kind = kind;
-  flag = flag;
-  value = value;
-  key = 0;
-  classmark = noThree;
-  reference = fourOf reference;
-  originator = originator;
-  state = optionalOf Absent;
-  attributes = optionalOf Absent;
-  identity = nowhere;
-  cause = nowhere;
-}
-
--- A type, a cause, and the half octets of a STATUS.
-abbrev pub caused : ℕ → ℕ → ℕ → Run → Half → Half → Numbers
-caused kind flag value cause state attributes = record {
-  kind = kind;
-  flag = flag;
-  value = value;
-  key = 0;
-  classmark = noThree;
-  reference = noFour;
-  originator = 0;
-  state = optionalOf state;
-  attributes = optionalOf attributes;
-  identity = nowhere;
-  cause = placeOf cause;
-}
-
-abbrev pub immediate : ℕ → ℕ → ℕ → Classmark → Run → Reference → Numbers
-immediate flag value key classmark identity reference = record {
-  kind = IMMEDIATE-SETUP;
   flag = flag;
   value = value;
   key = key;
-  classmark = threeOf classmark;
-  reference = fourOf reference;
-  originator = 0;
-  state = optionalOf Absent;
-  attributes = optionalOf Absent;
-  identity = placeOf identity;
-  cause = nowhere;
+  classmark = classmark;
+  reference = reference;
+  originator = originator;
+  state = state;
+  attributes = attributes;
+  identity = identity;
+  cause = cause;
 }
 
-abbrev pub asking : ℕ → ℕ → Identity → Numbers
-asking flag value identity = record {
-  kind = GET-STATUS;
-  flag = flag;
-  value = value;
-  key = 0;
-  classmark = noThree;
-  reference = noFour;
-  originator = 0;
-  state = optionalOf Absent;
-  attributes = optionalOf Absent;
-  identity = identityPlace identity;
-  cause = nowhere;
-}
+-- A message that carries nothing behind its first two octets.
+abbrev pub blank : ℕ → ℕ → ℕ → Numbers
+blank kind flag value = numbers kind flag value 0 noThree noFour 0 unsaid unsaid nowhere nowhere
 
 -- SET PARAMETER's attributes are mandatory, so nothing says that they are there.
-abbrev pub setting : ℕ → ℕ → ℕ → Numbers
-setting flag value attributes = record {
-  kind = SET-PARAMETER;
-  flag = flag;
-  value = value;
-  key = 0;
-  classmark = noThree;
-  reference = noFour;
-  originator = 0;
-  state = optionalOf Absent;
-  attributes = record { there = 0; value = attributes };
-  identity = nowhere;
-  cause = nowhere;
-}
+abbrev pub mandatory : ℕ → Optional
+mandatory attributes = record { there = 0; value = attributes }
 
--- The numbers of a message with its flag and transaction value.
+-- The numbers of a message with its flag and transaction value, a line a kind: type, flag, value, key, classmark, reference, originator, state, attributes,
+-- identity, cause.
 unfoldable pub numbersOf : Bool → ℕ → Message → Numbers
-numbersOf flag value (Connect reference originator) = referring CONNECT (flagNumber flag) value reference originator
-numbersOf flag value (GetStatus identity) = asking (flagNumber flag) value identity
-numbersOf flag value (ImmediateSetup key classmark identity reference) = immediate (flagNumber flag) value key classmark identity reference
-numbersOf flag value (SetParameter attributes) = setting (flagNumber flag) value attributes
-numbersOf flag value (Setup reference) = referring SETUP (flagNumber flag) value reference 0
-numbersOf flag value (Status cause state attributes) = caused STATUS (flagNumber flag) value cause state attributes
-numbersOf flag value (Termination cause) = caused TERMINATION (flagNumber flag) value cause Absent Absent
-numbersOf flag value (TerminationReject cause) = caused TERMINATION-REJECT (flagNumber flag) value cause Absent Absent
-numbersOf flag value (TerminationRequest reference) = referring TERMINATION-REQUEST (flagNumber flag) value reference 0
+numbersOf f v (Connect r o) = numbers CONNECT (flagNumber f) v 0 noThree (fourOf r) o unsaid unsaid nowhere nowhere
+numbersOf f v (GetStatus i) = numbers GET-STATUS (flagNumber f) v 0 noThree noFour 0 unsaid unsaid (identityPlace i) nowhere
+numbersOf f v (ImmediateSetup k c i r) = numbers IMMEDIATE-SETUP (flagNumber f) v k (threeOf c) (fourOf r) 0 unsaid unsaid (placeOf i) nowhere
+numbersOf f v (SetParameter a) = numbers SET-PARAMETER (flagNumber f) v 0 noThree noFour 0 unsaid (mandatory a) nowhere nowhere
+numbersOf f v (Setup r) = numbers SETUP (flagNumber f) v 0 noThree (fourOf r) 0 unsaid unsaid nowhere nowhere
+numbersOf f v (Status c x y) = numbers STATUS (flagNumber f) v 0 noThree noFour 0 (optionalOf x) (optionalOf y) nowhere (placeOf c)
+numbersOf f v (Termination c) = numbers TERMINATION (flagNumber f) v 0 noThree noFour 0 unsaid unsaid nowhere (placeOf c)
+numbersOf f v (TerminationReject c) = numbers TERMINATION-REJECT (flagNumber f) v 0 noThree noFour 0 unsaid unsaid nowhere (placeOf c)
+numbersOf f v (TerminationRequest r) = numbers TERMINATION-REQUEST (flagNumber f) v 0 noThree (fourOf r) 0 unsaid unsaid nowhere nowhere
 
 abbrev pub classmarkOf : Three → Classmark
 classmarkOf t = record { first = t .first; second = t .second; third = t .third }

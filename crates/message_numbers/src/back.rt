@@ -16,15 +16,7 @@ use crate::Numbers;
 use crate::Optional;
 use crate::Place;
 use crate::Three;
-use crate::kinds::CONNECT;
-use crate::kinds::GET_STATUS;
-use crate::kinds::IMMEDIATE_SETUP;
-use crate::kinds::SET_PARAMETER;
-use crate::kinds::SETUP;
-use crate::kinds::STATUS;
-use crate::kinds::TERMINATION;
-use crate::kinds::TERMINATION_REJECT;
-use crate::kinds::TERMINATION_REQUEST;
+use codes::message_type;
 use element::Run;
 use message::Classmark;
 use message::Half;
@@ -108,25 +100,25 @@ fn kind_of(numbers: Numbers) -> Meant
     let cause = run_of(numbers.cause);
     let kind = numbers.kind;
     match kind {
-        IMMEDIATE_SETUP => Meant::Is(Message::ImmediateSetup {
+        message_type::IMMEDIATE_SETUP => Meant::Is(Message::ImmediateSetup {
             key: numbers.key,
             classmark,
             identity,
             reference,
         }),
-        SETUP => Meant::Is(Message::Setup { reference }),
-        CONNECT => Meant::Is(Message::Connect {
+        message_type::SETUP => Meant::Is(Message::Setup { reference }),
+        message_type::CONNECT => Meant::Is(Message::Connect {
             reference,
             originator: numbers.originator,
         }),
-        TERMINATION => Meant::Is(Message::Termination { cause }),
-        TERMINATION_REQUEST => Meant::Is(Message::TerminationRequest { reference }),
-        TERMINATION_REJECT => Meant::Is(Message::TerminationReject { cause }),
-        STATUS => status_of(cause, numbers.state, attributes),
-        GET_STATUS => Meant::Is(Message::GetStatus {
+        message_type::TERMINATION => Meant::Is(Message::Termination { cause }),
+        message_type::TERMINATION_REQUEST => Meant::Is(Message::TerminationRequest { reference }),
+        message_type::TERMINATION_REJECT => Meant::Is(Message::TerminationReject { cause }),
+        message_type::STATUS => status_of(cause, numbers.state, attributes),
+        message_type::GET_STATUS => Meant::Is(Message::GetStatus {
             identity: identity_of(numbers.identity),
         }),
-        SET_PARAMETER => Meant::Is(Message::SetParameter {
+        message_type::SET_PARAMETER => Meant::Is(Message::SetParameter {
             attributes: attributes.value,
         }),
         _ => Meant::Nothing,

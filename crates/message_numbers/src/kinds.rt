@@ -1,5 +1,6 @@
 // The numbers of a message, kind by kind.
 ghost use mathlib.Core.Path.{_≡_};
+ghost use Rattle.codes.specs.MessageTypes.{IMMEDIATE-SETUP, GET-STATUS, SET-PARAMETER};
 ghost use Rattle.message_numbers.specs.Numbers.{
   threeOf,
   fourOf,
@@ -7,12 +8,13 @@ ghost use Rattle.message_numbers.specs.Numbers.{
   placeOf,
   identityPlace,
   flagNumber,
+  nowhere,
+  noThree,
+  noFour,
+  unsaid,
+  mandatory,
+  numbers,
   blank,
-  referring,
-  caused,
-  immediate,
-  asking,
-  setting,
   numbersOf,
 };
 use crate::Four;
@@ -20,31 +22,13 @@ use crate::Numbers;
 use crate::Optional;
 use crate::Place;
 use crate::Three;
+use codes::message_type;
 use element::Run;
 use message::Classmark;
 use message::Half;
 use message::Identity;
 use message::Message;
 use message::Reference;
-
-// The message types of table 9.1.
-pub(crate) const IMMEDIATE_SETUP: u8 = 0x31;
-
-pub(crate) const SETUP: u8 = 0x32;
-
-pub(crate) const CONNECT: u8 = 0x33;
-
-pub(crate) const TERMINATION: u8 = 0x34;
-
-pub(crate) const TERMINATION_REQUEST: u8 = 0x35;
-
-pub(crate) const TERMINATION_REJECT: u8 = 0x36;
-
-pub(crate) const STATUS: u8 = 0x38;
-
-pub(crate) const GET_STATUS: u8 = 0x39;
-
-pub(crate) const SET_PARAMETER: u8 = 0x3a;
 
 fn three_of(classmark: Classmark) -> Three
     ensures { λ r. ⌜ r ≡ threeOf classmark ⌝ }
@@ -130,7 +114,7 @@ pub(crate) fn blank(kind: u8, flag: u8, value: u8) -> Numbers
 
 // CONNECT, SETUP and TERMINATION REQUEST.
 fn referring(kind: u8, flag: u8, value: u8, reference: Reference, originator: u8) -> Numbers
-    ensures { λ r. ⌜ r ≡ referring kind flag value reference originator ⌝ }
+    ensures { λ r. ⌜ r ≡ numbers kind flag value 0 noThree (fourOf reference) originator unsaid unsaid nowhere nowhere ⌝ }
 {
     Numbers {
         reference: four_of(reference),
@@ -141,7 +125,7 @@ fn referring(kind: u8, flag: u8, value: u8, reference: Reference, originator: u8
 
 // STATUS, TERMINATION and TERMINATION REJECT.
 fn caused(kind: u8, flag: u8, value: u8, cause: Run, state: Half, attributes: Half) -> Numbers
-    ensures { λ r. ⌜ r ≡ caused kind flag value cause state attributes ⌝ }
+    ensures { λ r. ⌜ r ≡ numbers kind flag value 0 noThree noFour 0 (optionalOf state) (optionalOf attributes) nowhere (placeOf cause) ⌝ }
 {
     Numbers {
         cause: place_of(cause),
@@ -160,37 +144,37 @@ fn immediate(
     identity: Run,
     reference: Reference,
 ) -> Numbers
-    ensures { λ r. ⌜ r ≡ immediate flag value key classmark identity reference ⌝ }
+    ensures { λ r. ⌜ r ≡ numbers IMMEDIATE-SETUP flag value key (threeOf classmark) (fourOf reference) 0 unsaid unsaid (placeOf identity) nowhere ⌝ }
 {
     Numbers {
         key,
         classmark: three_of(classmark),
         identity: place_of(identity),
         reference: four_of(reference),
-        ..blank(IMMEDIATE_SETUP, flag, value)
+        ..blank(message_type::IMMEDIATE_SETUP, flag, value)
     }
 }
 
 // GET STATUS.
 fn asking(flag: u8, value: u8, identity: Identity) -> Numbers
-    ensures { λ r. ⌜ r ≡ asking flag value identity ⌝ }
+    ensures { λ r. ⌜ r ≡ numbers GET-STATUS flag value 0 noThree noFour 0 unsaid unsaid (identityPlace identity) nowhere ⌝ }
 {
     Numbers {
         identity: identity_place(identity),
-        ..blank(GET_STATUS, flag, value)
+        ..blank(message_type::GET_STATUS, flag, value)
     }
 }
 
 // SET PARAMETER.
 fn setting(flag: u8, value: u8, attributes: u8) -> Numbers
-    ensures { λ r. ⌜ r ≡ setting flag value attributes ⌝ }
+    ensures { λ r. ⌜ r ≡ numbers SET-PARAMETER flag value 0 noThree noFour 0 unsaid (mandatory attributes) nowhere nowhere ⌝ }
 {
     Numbers {
         attributes: Optional {
             there: 0,
             value: attributes,
         },
-        ..blank(SET_PARAMETER, flag, value)
+        ..blank(message_type::SET_PARAMETER, flag, value)
     }
 }
 
@@ -203,7 +187,7 @@ pub(crate) fn numbers_of(bit: bool, value: u8, message: Message) -> Numbers
         Message::Connect {
             reference,
             originator,
-        } => referring(CONNECT, flag, value, reference, originator),
+        } => referring(message_type::CONNECT, flag, value, reference, originator),
         Message::GetStatus { identity } => asking(flag, value, identity),
         Message::ImmediateSetup {
             key,
@@ -212,17 +196,24 @@ pub(crate) fn numbers_of(bit: bool, value: u8, message: Message) -> Numbers
             reference,
         } => immediate(flag, value, key, classmark, identity, reference),
         Message::SetParameter { attributes } => setting(flag, value, attributes),
-        Message::Setup { reference } => referring(SETUP, flag, value, reference, 0),
+        Message::Setup { reference } => referring(message_type::SETUP, flag, value, reference, 0),
         Message::Status {
             cause,
             state,
             attributes,
-        } => caused(STATUS, flag, value, cause, state, attributes),
+        } => caused(message_type::STATUS, flag, value, cause, state, attributes),
         Message::Termination { cause } => {
-            caused(TERMINATION, flag, value, cause, Half::Absent, Half::Absent)
+            caused(
+                message_type::TERMINATION,
+                flag,
+                value,
+                cause,
+                Half::Absent,
+                Half::Absent,
+            )
         }
         Message::TerminationReject { cause } => caused(
-            TERMINATION_REJECT,
+            message_type::TERMINATION_REJECT,
             flag,
             value,
             cause,
@@ -230,7 +221,7 @@ pub(crate) fn numbers_of(bit: bool, value: u8, message: Message) -> Numbers
             Half::Absent,
         ),
         Message::TerminationRequest { reference } => {
-            referring(TERMINATION_REQUEST, flag, value, reference, 0)
+            referring(message_type::TERMINATION_REQUEST, flag, value, reference, 0)
         }
     }
 }

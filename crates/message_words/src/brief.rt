@@ -160,12 +160,11 @@ fn tell_first_part(first: u8) {
     tell(b", cause ");
     tell_number(first % 128);
     tell(b" (");
-    if 128 <= first {
-        tell_cause(first % 128);
-        tell(b")");
-        return;
+    tell_cause(first);
+    if first < 128 {
+        tell(b": another part follows");
     }
-    tell(b"unspecific cause: another part follows)");
+    tell(b")");
 }
 
 fn tell_call_state(code: u8) {

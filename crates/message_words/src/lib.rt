@@ -6,6 +6,7 @@ mod faults;
 ghost use Prim.Native.Nat.{_≤_, _<_};
 ghost use lib.ListN.{length};
 pub use brief::tell_briefly;
+use codes::message_type;
 use element::Counted;
 use element::Found;
 use element::Run;
@@ -131,7 +132,7 @@ fn tell_fields(octets: &[u8], message: Message) {
             reference: _,
             originator,
         } => tell_connect(octets, originator),
-        Message::GetStatus { identity: _ } => tell_optional(octets, 2, 0x39),
+        Message::GetStatus { identity: _ } => tell_optional(octets, 2, message_type::GET_STATUS),
         Message::ImmediateSetup {
             key,
             classmark: _,
@@ -139,15 +140,22 @@ fn tell_fields(octets: &[u8], message: Message) {
             reference: _,
         } => tell_immediate_setup(octets, key, identity),
         Message::SetParameter { attributes } => tell_set_parameter(octets, attributes),
-        Message::Setup { reference: _ } => tell_referred(octets, 0x32),
+        Message::Setup { reference: _ } => tell_referred(octets, message_type::SETUP),
         Message::Status {
             cause,
             state: _,
             attributes: _,
-        } => tell_caused(octets, cause, 0x38),
-        Message::Termination { cause } => tell_caused(octets, cause, 0x34),
-        Message::TerminationReject { cause } => tell_caused(octets, cause, 0x36),
-        Message::TerminationRequest { reference: _ } => tell_referred(octets, 0x35),
+        } => tell_caused(octets, cause, message_type::STATUS),
+        Message::Termination { cause } => tell_caused(octets, cause, message_type::TERMINATION),
+        Message::TerminationReject { cause } => tell_caused(
+            octets,
+            cause,
+            message_type::TERMINATION_REJECT,
+        ),
+        Message::TerminationRequest { reference: _ } => tell_referred(
+            octets,
+            message_type::TERMINATION_REQUEST,
+        ),
     }
 }
 
@@ -174,7 +182,7 @@ fn tell_reference(octets: &[u8], start: usize) {
 fn tell_connect(octets: &[u8], originator: u8) {
     tell_reference(octets, 2);
     tell_originator(originator);
-    tell_optional(octets, 7, 0x33);
+    tell_optional(octets, 7, message_type::CONNECT);
 }
 
 fn tell_originator(originator: u8) {
@@ -188,7 +196,7 @@ fn tell_originator(originator: u8) {
 fn tell_set_parameter(octets: &[u8], attributes: u8) {
     tell_places(2, 1);
     tell_attributes(attributes);
-    tell_optional(octets, 3, 0x3a);
+    tell_optional(octets, 3, message_type::SET_PARAMETER);
 }
 
 // SETUP and TERMINATION REQUEST.
@@ -209,7 +217,11 @@ fn tell_immediate_setup(octets: &[u8], key: u8, identity: Run) {
     tell_length(7, count, b"length of the mobile identity ");
     tell_run(octets, start, count, b"mobile identity ");
     tell_reference(octets, end);
-    tell_optional(octets, std::num::wrapping_add_usize(end, 4), 0x31);
+    tell_optional(
+        octets,
+        std::num::wrapping_add_usize(end, 4),
+        message_type::IMMEDIATE_SETUP,
+    );
 }
 
 // STATUS, TERMINATION and TERMINATION REJECT: the cause's length octet, its first part and the diagnostics behind that.
@@ -227,12 +239,11 @@ fn tell_cause_part(first: u8) {
     tell(b"octet 4: cause ");
     tell_number(first % 128);
     tell(b", ");
-    if 128 <= first {
-        tell_cause(first % 128);
-        tell(b"\n");
-        return;
+    tell_cause(first);
+    if first < 128 {
+        tell(b": bit 8 is 0, so it has more than one cause part");
     }
-    tell(b"unspecific cause: bit 8 is 0, so it has more than one cause part\n");
+    tell(b"\n");
 }
 
 // What stands behind the first cause part. `start` is its place, `count` the count of the whole cause.
@@ -300,15 +311,15 @@ fn is_first(octets: &[u8], from: usize, at: usize, low: u8, high: u8) -> bool {
 // The mobile identity of GET STATUS, the call state and the state attributes of STATUS, the first of each; any other element is skipped.
 fn tell_one(octets: &[u8], from: usize, at: usize, kind: u8) {
     let identifier = octet_at(octets, at);
-    if (kind == 0x39) & is_first(octets, from, at, 0x17, 0x17) {
+    if (kind == message_type::GET_STATUS) & is_first(octets, from, at, 0x17, 0x17) {
         tell_own(octets, std::num::wrapping_add_usize(at, 1));
         return;
     }
-    if (kind == 0x38) & is_first(octets, from, at, 0xa0, 0xaf) {
+    if (kind == message_type::STATUS) & is_first(octets, from, at, 0xa0, 0xaf) {
         tell_call_state(identifier % 16);
         return;
     }
-    if (kind == 0x38) & is_first(octets, from, at, 0xb0, 0xbf) {
+    if (kind == message_type::STATUS) & is_first(octets, from, at, 0xb0, 0xbf) {
         tell_attributes(identifier % 16);
         return;
     }

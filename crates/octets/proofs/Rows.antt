@@ -2,8 +2,10 @@
 use Prim.Native.Nat.{ℕ}
 use mathlib.Core.Path.{_≡_, refl}
 use mathlib.Core.List.{List, [], _∷_}
-use borrow.Author.Tests.{ne-eqb}
+use lib.Dec.{eqb}
+use borrow.Author.Tests.{ne-eqb, eqb-true, eqb-false}
 use Rattle.octets.specs.Rows.{rows}
+use Rattle.octets.proofs.Choice.{at-cond}
 
 -- No row has the number `n`.
 abbrev pub Absent : {A : Type 0} → ℕ → List (ℕ × A) → Type 0
@@ -26,3 +28,14 @@ refuted n known (x ∷ xs) h = let p = refuted n (known × (n ≡ x .0 → ⊥))
 
 pub no-row : {A : Type 0} (n : ℕ) (d : A) (xs : List (ℕ × A)) → Refuted n (Unit {0}) xs → d ≡ rows n d xs
 no-row n d xs h = other n d xs (refuted n (Unit {0}) xs h .1)
+
+-- What holds of each row when it is the one, and of "otherwise" when there is none, holds of what the table says.
+abbrev pub Each : {A : Type 0} → (A → Type 0) → ℕ → List (ℕ × A) → Type 0
+Each P n [] = Unit {0}
+Each P n (x ∷ xs) = (n ≡ x .0 → P (x .1)) × Each P n xs
+
+pub at-rows : {A : Type 0} (P : A → Type 0) (n : ℕ) (d : A) (xs : List (ℕ × A)) → Each P n xs → (Absent n xs → P d) → P (rows n d xs)
+at-rows P n d [] ps otherwise = otherwise tt
+at-rows P n d (x ∷ xs) ps otherwise =
+    at-cond P (eqb n (x .0)) (x .1) (rows n d xs) (λ e. ps .0 (eqb-true n (x .0) e))
+    (λ e. at-rows P n d xs (ps .1) (λ absent. otherwise (eqb-false n (x .0) e, absent)))

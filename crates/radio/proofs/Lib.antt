@@ -1,3 +1,4 @@
+pub mod Numbers
 pub mod Range
 pub mod Reacting
 pub mod Answers

@@ -9,9 +9,10 @@ use lib.ListN.{length}
 use borrow.Author.Tests.{ltb-false, eqb-false, eqb-true, not-false, le-leb, le-ltb}
 use Rattle.octets.proofs.Choice.{never}
 use Rattle.context.specs.declared.Context.{Context}
-use Rattle.context.specs.Fit.{fitOf}
+use Rattle.fitness.specs.First.{fitOf}
+use Rattle.step_arguments.specs.Arguments.{settingsOut, outOfRange, argumentRefusal}
 use Rattle.radio.specs.declared.Happened.{Happened}
-use Rattle.radio.specs.Step.{outOfRange, refusalOf}
+use Rattle.radio.specs.Step.{fitnessRefusal, refusalOf}
 
 pub neither-first : (a b : Bool) → (a || b) ≡ false → a ≡ false
 neither-first true b e = e
@@ -21,8 +22,11 @@ pub neither-second : (a b : Bool) → (a || b) ≡ false → b ≡ false
 neither-second true b e = never (sym e)
 neither-second false b e = e
 
--- No refusal: each test was passed.
-chosen : (a b c d : Bool) → _≡_ {A = ℕ} (cond a 7 (cond b 5 (cond c 6 (cond d 4 0)))) 0 → (a ≡ false) × ((b ≡ false) × ((c ≡ false) × (d ≡ false)))
+-- The number of a refusal by its four tests. No refusal: each test was passed.
+abbrev pub byTests : Bool → Bool → Bool → Bool → ℕ
+byTests a b c d = cond (eqb (cond a 7 0) 0) (cond b 5 (cond c 6 (cond d 4 0))) (cond a 7 0)
+
+chosen : (a b c d : Bool) → byTests a b c d ≡ 0 → (a ≡ false) × ((b ≡ false) × ((c ≡ false) × (d ≡ false)))
 chosen true b c d e = let z : ⊥ = omega arith in elim z [ ]
 chosen false true c d e = let z : ⊥ = omega arith in elim z [ ]
 chosen false false true d e = let z : ⊥ = omega arith in elim z [ ]
@@ -40,50 +44,62 @@ pub record InRange (x : Context) (key identity : ℕ) (h : Happened) (octets roo
   pub least : 1 ≤ identity
   pub most : identity ≤ 8
   pub short : eqb (h .number) 18 && ltb 251 octets ≡ false
-  pub range : outOfRange key identity h ≡ false
+  pub range : outOfRange key identity (h .number) (h .value) (h .mode) ≡ false
 
 pub in-range : (x : Context) (key identity : ℕ) (h : Happened) (octets room : ℕ) → refusalOf x key identity h octets room ≡ 0 → InRange x key identity h octets room
-unfolding refusalOf outOfRange
+unfolding refusalOf fitnessRefusal argumentRefusal outOfRange settingsOut
 in-range x key identity h octets room e =
-    let p = chosen (not (fitOf x)) (ltb room 255) (eqb (h .number) 18 && ltb 251 octets) (outOfRange key identity h) e in
+    let p = chosen (not (fitOf x)) (ltb room 255) (eqb (h .number) 18 && ltb 251 octets) (outOfRange key identity (h .number) (h .value) (h .mode)) e in
     let o = p .1 .1 .1 in
-    let r = neither-second (ltb 7 key) _ o in
+    let settings = neither-first (settingsOut key identity) _ o in
+    let r = neither-second (ltb 7 key) _ settings in
     let n : identity ≡ 0 → ⊥ = eqb-false identity 0 (neither-first (eqb identity 0) _ r) in
     record {
       fit = not-false (fitOf x) (p .0);
       big = ltb-false room 255 (p .1 .0);
-      known = ltb-false 7 key (neither-first (ltb 7 key) _ o);
+      known = ltb-false 7 key (neither-first (ltb 7 key) _ settings);
       least = positive identity n;
-      most = ltb-false 8 identity (neither-first (ltb 8 identity) _ (neither-second (eqb identity 0) _ r));
+      most = ltb-false 8 identity (neither-second (eqb identity 0) _ r);
       short = p .1 .1 .0;
       range = o;
     }
 
 -- The other way round: a step that passes each test is not refused.
 pub passed : (x : Context) (key identity : ℕ) (h : Happened) (octets room : ℕ) → fitOf x ≡ true → 255 ≤ room → eqb (h .number) 18 && ltb 251 octets ≡ false
-    → outOfRange key identity h ≡ false → refusalOf x key identity h octets room ≡ 0
-unfolding refusalOf
+    → outOfRange key identity (h .number) (h .value) (h .mode) ≡ false → refusalOf x key identity h octets room ≡ 0
+unfolding refusalOf fitnessRefusal argumentRefusal
 passed x key identity h octets room f r o g = rw (f, le-ltb room 255 r, o, g)
 
--- A refusal's number is over 3.
+-- A refusal's number is over 3, and at most 7.
 pub refused-over : (x : Context) (key identity : ℕ) (h : Happened) (octets room : ℕ) → (refusalOf x key identity h octets room ≡ 0 → ⊥)
     → 3 < refusalOf x key identity h octets room
-unfolding refusalOf
-refused-over x key identity h octets room = go (not (fitOf x)) (ltb room 255) (eqb (h .number) 18 && ltb 251 octets) (outOfRange key identity h)
+unfolding refusalOf fitnessRefusal argumentRefusal
+refused-over x key identity h octets room = go (not (fitOf x)) (ltb room 255) (eqb (h .number) 18 && ltb 251 octets) (outOfRange key identity (h .number) (h .value) (h .mode))
   where
-    go : (a b c d : Bool) → (_≡_ {A = ℕ} (cond a 7 (cond b 5 (cond c 6 (cond d 4 0)))) 0 → ⊥) → 3 < cond a 7 (cond b 5 (cond c 6 (cond d 4 0)))
+    go : (a b c d : Bool) → (byTests a b c d ≡ 0 → ⊥) → 3 < byTests a b c d
     go true b c d n = omega arith
     go false true c d n = omega arith
     go false false true d n = omega arith
     go false false false true n = omega arith
     go false false false false n = absurd (n refl)
 
+pub refused-most : (x : Context) (key identity : ℕ) (h : Happened) (octets room : ℕ) → refusalOf x key identity h octets room ≤ 7
+unfolding refusalOf fitnessRefusal argumentRefusal
+refused-most x key identity h octets room = go (not (fitOf x)) (ltb room 255) (eqb (h .number) 18 && ltb 251 octets) (outOfRange key identity (h .number) (h .value) (h .mode))
+  where
+    go : (a b c d : Bool) → byTests a b c d ≤ 7
+    go true b c d = omega arith
+    go false true c d = omega arith
+    go false false true d = omega arith
+    go false false false true = omega arith
+    go false false false false = omega arith
+
 -- What the tests of range say of an event that passes them.
-module _ (key identity : ℕ) (h : Happened) (e : outOfRange key identity h ≡ false) where
+module _ (key identity : ℕ) (h : Happened) (e : outOfRange key identity (h .number) (h .value) (h .mode) ≡ false) where
   event-tests : (eqb (h .number) 0 || ltb 18 (h .number))
       || (eqb (h .number) 18 && ltb 1 (h .mode) || (eqb (h .number) 1 || (eqb (h .number) 2 || eqb (h .number) 10)) && ltb 6 (h .value)) ≡ false
   unfolding outOfRange
-  event-tests = neither-second (ltb 8 identity) _ (neither-second (eqb identity 0) _ (neither-second (ltb 7 key) _ e))
+  event-tests = neither-second (settingsOut key identity) _ e
 
   data-tests : eqb (h .number) 18 && ltb 1 (h .mode) || (eqb (h .number) 1 || (eqb (h .number) 2 || eqb (h .number) 10)) && ltb 6 (h .value) ≡ false
   data-tests = neither-second (eqb (h .number) 0 || ltb 18 (h .number)) _ event-tests

@@ -1,14 +1,15 @@
 -- Document 01, "Answer numbers": the step as the host has it, its tests in their order, and what it answers and writes.
 use Prim.Native.Nat.{ℕ}
 use mathlib.Core.List.{List, [], _∷_}
-use mathlib.Core.Bool.{Bool, cond, not, _&&_, _||_}
+use mathlib.Core.Bool.{cond, not}
 use lib.ListN.{length}
-use lib.Dec.{eqb, leb, ltb}
+use lib.Dec.{eqb}
 use Rattle.octets.specs.Rows.{rows}
 use Rattle.message.specs.declared.Reference.{Reference}
 use Rattle.context.specs.declared.Context.{Context}
-use Rattle.context.specs.Fit.{fitOf}
-use Rattle.call.specs.declared.Event.{Event}
+use Rattle.fitness.specs.First.{fitOf}
+use Rattle.call.specs.declared.Due.{Due}
+use Rattle.call.specs.declared.Due.the-variants.{Steps, Refused}
 use Rattle.call.specs.declared.Event.the-variants.{
   SetUp,
   ImmediateSetUp,
@@ -28,16 +29,17 @@ use Rattle.call.specs.declared.Event.the-variants.{
   ConnReqExpired,
   NoChannelExpired,
 }
-use Rattle.call.specs.declared.Stepped.{Stepped as Taken}
-use Rattle.call.specs.Step.{noStep, stepValue}
+use Rattle.call.specs.declared.Settled.{Settled}
+use Rattle.call.specs.Due.{settled}
 use Rattle.reply.specs.declared.Own.{Own}
 use Rattle.reply.specs.Reply.{replyOf, putOf}
+use Rattle.step_arguments.specs.Arguments.{argumentRefusal}
 use Rattle.radio.specs.declared.Happened.{Happened}
 use Rattle.radio.specs.declared.Outcome.{Outcome}
 use Rattle.radio.specs.declared.Stepped.{Stepped}
 use Rattle.radio.specs.declared.Told.{Told}
 use Rattle.radio.specs.declared.Told.the-variants.{Is, NoEvent}
-use Rattle.received.specs.Received.{heardOf}
+use Rattle.received.specs.Due.{dueOf}
 
 -- Event numbers. 18, message received, goes by "Received messages".
 abbrev pub events : ℕ → Reference → List (ℕ × Told)
@@ -64,25 +66,18 @@ events value reference =
 unfoldable pub eventOf : ℕ → ℕ → Reference → Told
 eventOf number value reference = rows number NoEvent (events value reference)
 
--- A number without an event is refused before.
-unfoldable pub onEvent : Context → Told → Taken
-onEvent x (Is event) = stepValue x event
-onEvent x NoEvent = noStep x
+-- The event of a number is due; a number without an event comes to no step. (It is refused before.)
+unfoldable pub toldDue : Told → Due
+toldDue (Is event) = Steps event
+toldDue NoEvent = Refused
 
-unfoldable pub reactedTo : List ℕ → Context → Happened → List ℕ → Taken
-reactedTo identity x h s =
-    cond (eqb (h .number) 18) (heardOf identity x (h .mode) s) (onEvent x (eventOf (h .number) (h .value) (h .reference)))
+-- What is due where an event happens: a message goes by "Received messages", any other event by its number.
+unfoldable pub dueTo : List ℕ → Context → Happened → List ℕ → Due
+dueTo identity x h s = cond (eqb (h .number) 18) (dueOf identity x (h .mode) s) (toldDue (eventOf (h .number) (h .value) (h .reference)))
 
--- Answer 4: event number, mode, a transaction value over 6, ciphering key number over 7, own identity of 0 or over 8 octets;
--- mode and transaction value only where the event carries them.
-unfoldable pub outOfRange : ℕ → ℕ → Happened → Bool
-outOfRange key identity h =
-    ltb 7 key ||
-    (eqb identity 0 ||
-    (ltb 8 identity ||
-    ((eqb (h .number) 0 || ltb 18 (h .number)) ||
-    (eqb (h .number) 18 && ltb 1 (h .mode) ||
-    (eqb (h .number) 1 || (eqb (h .number) 2 || eqb (h .number) 10)) && ltb 6 (h .value)))))
+-- What is due, done.
+unfoldable pub reactedTo : List ℕ → Context → Happened → List ℕ → Settled
+reactedTo identity x h s = settled x (dueTo identity x h s)
 
 -- What a step comes to: answer number, context afterwards, actions, reply octets.
 pub record Reaction : Type 0 where
@@ -96,7 +91,7 @@ abbrev pub refused : ℕ → Context → Reaction
 refused answer x = record { answer = answer; context = x; actions = 0; reply = [] }
 
 -- A step that is not refused, with what it sends as octets.
-abbrev pub reacted : Own → List ℕ → List ℕ → Taken → Reaction
+abbrev pub reacted : Own → List ℕ → List ℕ → Settled → Reaction
 reacted own identity s taken = record {
   answer = taken .answer;
   context = taken .context;
@@ -104,33 +99,32 @@ reacted own identity s taken = record {
   reply = replyOf own identity s (taken .context) (taken .sends);
 }
 
--- Test order for a step: 7, 5, 6, 4, then the rest. `room` is the length of the lent reply buffer.
+-- Why a step is refused, as the answer's number, and 0 where it is not; in two parts. The first: 7, the context is not fit.
+-- The second, whatever the context, goes by the step's arguments: 5, 6 and 4 (`argumentRefusal`).
+unfoldable pub fitnessRefusal : Context → ℕ
+fitnessRefusal x = cond (not (fitOf x)) 7 0
+
+-- Test order for a step: 7, 5, 6, 4,
+unfoldable pub refusalOf : Context → ℕ → ℕ → Happened → ℕ → ℕ → ℕ
+refusalOf x key identity h octets room =
+    cond (eqb (fitnessRefusal x) 0) (argumentRefusal key identity (h .number) (h .value) (h .mode) octets room) (fitnessRefusal x)
+
+-- then the rest.
 unfoldable pub stepOf : Own → List ℕ → ℕ → Context → Happened → List ℕ → Reaction
 stepOf own identity room x h s =
-    cond (not (fitOf x)) (refused 7 x)
-    (cond (ltb room 255) (refused 5 x)
-    (cond (eqb (h .number) 18 && ltb 251 (length s)) (refused 6 x)
-    (cond (outOfRange (own .key) (length identity) h) (refused 4 x)
-    (reacted own identity s (reactedTo identity x h s)))))
+    let refusal : ℕ = refusalOf x (own .key) (length identity) h (length s) room in
+    cond (eqb refusal 0) (reacted own identity s (reactedTo identity x h s)) (refused refusal x)
 
 -- The step without its tests, for any arguments: the reply is what the lent buffer takes. Where no test refuses it is the step.
 unfoldable pub takenOf : Own → List ℕ → ℕ → Context → Happened → List ℕ → Reaction
 takenOf own identity room x h s =
-    let taken : Taken = reactedTo identity x h s in
+    let taken : Settled = reactedTo identity x h s in
     record {
       answer = taken .answer;
       context = taken .context;
       actions = taken .actions;
       reply = putOf room own identity s (taken .context) (taken .sends);
     }
-
--- The refusal's number alone, 0 where the step is not refused.
-unfoldable pub refusalOf : Context → ℕ → ℕ → Happened → ℕ → ℕ → ℕ
-refusalOf x key identity h octets room =
-    cond (not (fitOf x)) 7
-    (cond (ltb room 255) 5
-    (cond (eqb (h .number) 18 && ltb 251 octets) 6
-    (cond (outOfRange key identity h) 4 0)))
 
 -- A reaction as the code's result: the reply's octets stand in the buffer, and the result has their count.
 abbrev pub shown : Reaction → Stepped

@@ -3,8 +3,7 @@
 ghost use mathlib.Core.Path.{_≡_};
 ghost use lib.ListN.{length};
 ghost use lib.Seq.{sets};
-ghost use Rattle.call.specs.Due.{settled};
-ghost use Rattle.radio.specs.Step.{eventOf, reactedTo, outOfRange, refusalOf, shown, stepOf, takenOf};
+ghost use Rattle.radio.specs.Step.{eventOf, dueTo, reactedTo, fitnessRefusal, refusalOf, shown, stepOf, takenOf};
 use call::Due;
 use call::Event;
 use context::Context;
@@ -66,7 +65,7 @@ fn event_of(number: u32, value: u8, reference: Reference) -> Told
 
 // What is due where an event in range happens.
 fn due_to(context: Context, identity: &[u8], happened: Happened, octets: &[u8]) -> Due
-    ensures { λ r. ⌜ settled context r ≡ reactedTo (now (identity .entry)) context happened (now (octets .entry)) ⌝ }
+    ensures { λ r. ⌜ r ≡ dueTo (now (identity .entry)) context happened (now (octets .entry)) ⌝ }
 {
     let reference = happened.reference;
     if happened.number == 18 {
@@ -79,22 +78,21 @@ fn due_to(context: Context, identity: &[u8], happened: Happened, octets: &[u8]) 
 }
 
 // The step of an event that is in range.
-fn react(context: Context, identity: &[u8], happened: Happened, octets: &[u8]) -> call::Stepped
+fn react(context: Context, identity: &[u8], happened: Happened, octets: &[u8]) -> call::Settled
     ensures { λ r. ⌜ r ≡ reactedTo (now (identity .entry)) context happened (now (octets .entry)) ⌝ }
 {
     let due = due_to(context, identity, happened, octets);
-    call::settle(context, due)
+    call_step::settle(context, due)
 }
 
-// Whether something is outside its range.
-fn is_out_of_range(key: u8, identity: usize, happened: Happened) -> bool
-    ensures { λ r. ⌜ r ≡ outOfRange key identity happened ⌝ }
+// The first part of a refusal: 7 where the context is not fit, else 0.
+fn fitness_refusal(context: Context) -> u8
+    ensures { λ r. ⌜ r ≡ fitnessRefusal context ⌝ }
 {
-    let number = happened.number;
-    let no_event = (number == 0) | (18 < number);
-    let no_mode = (number == 18) & (1 < happened.mode);
-    let no_value = ((number == 1) | ((number == 2) | (number == 10))) & (6 < happened.value);
-    (7 < key) | ((identity == 0) | ((8 < identity) | (no_event | (no_mode | no_value))))
+    if !fitness::is_fit(context) {
+        return 7;
+    }
+    0
 }
 
 // Why a step is refused, in the order of the tests: 7, 5, 6, 4; and 0 where it is not.
@@ -108,33 +106,35 @@ fn refusal(
 ) -> u8
     ensures { λ r. ⌜ r ≡ refusalOf context key identity happened octets room ⌝ }
 {
-    if !context::is_fit(context) {
-        return 7;
+    let unfit = fitness_refusal(context);
+    let number = happened.number;
+    let value = happened.value;
+    let mode = happened.mode;
+    let unsuited = step_arguments::argument_refusal(
+        key,
+        identity,
+        number,
+        value,
+        mode,
+        octets,
+        room,
+    );
+    if unfit != 0 {
+        return unfit;
     }
-    if room < 255 {
-        return 5;
-    }
-    if (happened.number == 18) & (251 < octets) {
-        return 6;
-    }
-    if is_out_of_range(key, identity, happened) {
-        return 4;
-    }
-    0
+    unsuited
 }
 
 // A refusal: nothing is changed.
 fn refused(context: Context, answer: u8) -> Stepped
     ensures { λ r. ⌜ r ≡ shown (Rattle.radio.specs.Step.refused answer context) ⌝ }
 {
-    Stepped {
-        context,
-        outcome: Outcome {
-            answer,
-            actions: 0,
-            count: 0,
-        },
-    }
+    let outcome = Outcome {
+        answer,
+        actions: 0,
+        count: 0,
+    };
+    Stepped { context, outcome }
 }
 
 // The step without its tests, for a caller that has made them. The reply is written over the start of `reply`; of a message received `octets` are

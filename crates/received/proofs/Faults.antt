@@ -1,17 +1,15 @@
 -- What rule 3 reports: after rules 1 and 2 a message that can't be read has fault 4, its mandatory part or an element that must be known.
-use Prim.Native.Nat.{ℕ, _/_, _%_, _≤_}
-use mathlib.Core.Path.{_≡_, refl, sym, ap, subst, _∙_}
-use mathlib.Core.List.{List, [], _∷_}
-use mathlib.Core.Bool.{Bool, true, false, cond, not, _||_}
+use Prim.Native.Nat.{ℕ, _%_, _≤_}
+use mathlib.Core.Path.{_≡_, refl, sym}
+use mathlib.Core.List.{List}
+use mathlib.Core.Bool.{Bool, true, false}
 use native.Mathlib.Omega.{arith}
-use lib.Dec.{eqb, leb, ltb}
+use lib.Dec.{leb}
 use lib.ListN.{length, getD}
-use borrow.Author.Tests.{le-ltb, eqb-false, not-false}
-use Rattle.octets.specs.Rows.{rows}
-use Rattle.octets.proofs.Choice.{at-cond, never}
-use Rattle.octets.proofs.Rows.{Absent, other}
-use Rattle.codes.specs.declared.state.State.{State}
-use Rattle.codes.specs.declared.state.State.the-variants.{U0, U0p, U1, U2, U3, U4, U5, U6}
+use borrow.Author.Tests.{le-ltb}
+use Rattle.octets.proofs.Choice.{at-cond}
+use Rattle.octets.proofs.Rows.{Absent, Each, other, at-rows}
+use Rattle.codes.specs.declared.state.State.the-variants.{U0}
 use Rattle.element.specs.declared.Run.{Run}
 use Rattle.element.specs.declared.Found.{Found}
 use Rattle.element.specs.declared.Found.the-variants.{At, Nothing}
@@ -48,12 +46,13 @@ use Rattle.message.specs.Reading.{
   readMessage,
 }
 use Rattle.context.specs.declared.Context.{Context}
-use Rattle.context.specs.States.{same, flagOf}
-use Rattle.transitions.specs.declared.Decision.{Decision}
+use Rattle.context.specs.States.{same}
 use Rattle.transitions.specs.declared.Decision.the-variants.{Report}
-use Rattle.transitions.specs.Table.{stepTable, typesIn, heardIn, decidedIn, decidedOf}
-use Rattle.received.specs.Received.{transactionIs, isNotOurs, causeIn, typeCause}
-use Rattle.received.proofs.Rules.{either-false, first-false}
+use Rattle.transitions.specs.Table.{stepTable, decidedIn, decidedBy, decidedOf}
+use Rattle.transitions.proofs.Types.{types, no-type}
+use Rattle.transitions.proofs.Sound.{document-01}
+use Rattle.received.specs.Received.{causeIn, typeCause}
+use Rattle.received.proofs.Rules.{Ours}
 
 abbrev FourBody : Body → Type 0
 FourBody (Is message) = Unit {0}
@@ -78,69 +77,29 @@ counted at go (Octets run) w = w run
 counted at go CountedShort w = refl
 counted at go CountedWrong w = refl
 
-abbrev All : List (ℕ × Body) → Type 0
-All [] = Unit {0}
-All (r ∷ rs) = FourBody (r .1) × All rs
-
--- A number that has a row, or else has none.
-among : (n : ℕ) (d : Body) (rs : List (ℕ × Body)) → All rs → (Absent n rs → FourBody d) → FourBody (rows n d rs)
-among n d [] ps p = p tt
-among n d (r ∷ rs) ps p =
-    at-cond FourBody (eqb n (r .0)) (r .1) (rows n d rs) (λ e. ps .0) (λ e. among n d rs (ps .1) (λ q. p (eqb-false n (r .0) e, q)))
-
 immediate : (s : List ℕ) → FourBody (immediateSetupOf s)
 unfolding immediateSetupOf immediateIdentityOf
 immediate s = counted 3 _ (countedAt s 3 3 3) (λ c. counted 7 _ (countedAt s 7 1 8) (λ run. whole s _ _))
 
-bodies : (s : List ℕ) → All (kinds s)
+bodies : (s : List ℕ) (kind : ℕ) → Each FourBody kind (kinds s)
 unfolding connectOf getStatusOf setParameterOf setupOf statusOf terminationOf terminationRejectOf terminationRequestOf
-bodies s = (
-  immediate s,
-  (
-    whole s _ _,
-    (
-      whole s _ _,
+bodies s kind =
+    let terminated = counted 2 (terminationBehind s) (countedAt s 2 1 247) (λ run. whole s _ _) in
+    let rejected = counted 2 (terminationRejectBehind s) (countedAt s 2 1 247) (λ run. whole s _ _) in
+    let told = counted 2 (statusBehind s) (countedAt s 2 1 247) (λ run. whole s _ _) in (
+      λ e. immediate s,
       (
-        counted 2 (terminationBehind s) (countedAt s 2 1 247) (λ run. whole s _ _),
-        (
-          whole s _ _,
-          (
-            counted 2 (terminationRejectBehind s) (countedAt s 2 1 247) (λ run. whole s _ _),
-            (counted 2 (statusBehind s) (countedAt s 2 1 247) (λ run. whole s _ _), (whole s _ _, (whole s _ _, tt))),
-          ),
-        ),
+        λ e. whole s _ _,
+        (λ e. whole s _ _, (λ e. terminated, (λ e. whole s _ _, (λ e. rejected, (λ e. told, (λ e. whole s _ _, (λ e. whole s _ _, tt))))))),
       ),
-    ),
-  ),
-)
+    )
 
 -- A type that is not of table 9.1 is reported with 97 in every state but U0.
-unknown : (s : List ℕ) (t : State) (x : Context) (code : ℕ) → same t U0 ≡ false → Absent code (kinds s) → decidedIn t x 18 code ≡ Report 97
-unfolding decidedIn heardIn stepTable
-unknown s U0 x code u a = never (sym u)
-unknown s U0p x code u a = sym (other code (Report 97) (typesIn U0p x) (a .1 .1 .0, (a .1 .1 .1 .0, (a .1 .1 .1 .1 .1 .1 .1 .0, (a .1 .1 .1 .1 .1 .1 .1 .1 .0, a)))))
-unknown s U1 x code u a = sym (other code (Report 97) (typesIn U1 x) (a .1 .1 .0, (a .1 .1 .1 .0, (a .1 .1 .1 .1 .1 .1 .1 .0, (a .1 .1 .1 .1 .1 .1 .1 .1 .0, a)))))
-unknown s U2 x code u a = sym (other code (Report 97) (typesIn U2 x) (a .1 .1 .1 .0, (a .1 .1 .1 .1 .1 .1 .1 .0, (a .1 .1 .1 .1 .1 .1 .1 .1 .0, a))))
-unknown s U3 x code u a = sym (other code (Report 97) (typesIn U3 x) (a .1 .1 .1 .0, (a .1 .1 .1 .1 .1 .1 .1 .0, (a .1 .1 .1 .1 .1 .1 .1 .1 .0, a))))
-unknown s U4 x code u a = sym (other code (Report 97) (typesIn U4 x) (a .1 .1 .1 .0, (a .1 .1 .1 .1 .1 .1 .1 .0, (a .1 .1 .1 .1 .1 .1 .1 .1 .0, a))))
-unknown s U5 x code u a = sym (other code (Report 97) (typesIn U5 x) (a .1 .1 .1 .1 .1 .0, (a .1 .1 .1 .0, (a .1 .1 .1 .1 .1 .1 .1 .0, (a .1 .1 .1 .1 .1 .1 .1 .1 .0, a)))))
-unknown s U6 x code u a = sym (other code (Report 97) (typesIn U6 x) (a .1 .1 .1 .0, (a .1 .1 .1 .1 .1 .1 .1 .0, (a .1 .1 .1 .1 .1 .1 .1 .1 .0, a))))
+unknown : (s : List ℕ) (x : Context) (code : ℕ) → same (x .state) U0 ≡ false → Absent code (kinds s) → decidedOf x 18 code ≡ Report 97
+unfolding decidedBy decidedIn
+unknown s x code u a = sym (no-type (x .state) x code (other code false types a) stepTable (document-01 .types-known) u)
 
-module _ (x : Context) (s : List ℕ) (ours : isNotOurs x s ≡ false) (none : typeCause x (getD s 1 0) ≡ 0) where
-  call : same (x .state) U0 ≡ false
-  unfolding isNotOurs
-  call = first-false (same (x .state) U0) _ ours
-
-  two : ltb (length s) 2 ≡ false
-  unfolding isNotOurs
-  two = first-false (ltb (length s) 2) _ (either-false (same (x .state) U0) _ ours)
-
-  broadcast : eqb (getD s 0 0 % 16) 1 ≡ true
-  unfolding isNotOurs
-  broadcast =
-      not-false _
-      (first-false (not (eqb (getD s 0 0 % 16) 1)) _ (either-false (ltb (length s) 2) _ (either-false (same (x .state) U0) _ ours)))
-
+module _ (x : Context) (s : List ℕ) (ours : Ours x s) (none : typeCause x (getD s 1 0) ≡ 0) where
   apart : (n : ℕ) → n ≡ 97 → n ≡ 0 → ⊥
   apart n a b = omega arith
 
@@ -156,10 +115,10 @@ module _ (x : Context) (s : List ℕ) (ours : isNotOurs x s ≡ false) (none : t
       go false e = refl
 
   typed : Absent (getD s 1 0 % 64) (kinds s) → ⊥
-  unfolding typeCause decidedOf causeIn
+  unfolding typeCause causeIn
   typed a =
       apart (typeCause x (getD s 1 0))
-      (rw (low, unknown s (x .state) x (getD s 1 0 % 64) call a)) none
+      (rw (low, unknown s x (getD s 1 0 % 64) (ours .calling) a)) none
 
   read-as : (flag : Bool) (value : ℕ) (b : Body) → FourBody b → Four (readAs flag value b)
   read-as flag value (Is message) p = p
@@ -168,5 +127,5 @@ module _ (x : Context) (s : List ℕ) (ours : isNotOurs x s ≡ false) (none : t
   pub fault-four : length s ≤ 251 → Four (readMessage s)
   unfolding readMessage bodyOf
   fault-four h =
-      rw (le-ltb 251 (length s) h, two, broadcast, low)
-      (read-as _ _ (bodyOf s (getD s 1 0 % 64)) (among (getD s 1 0 % 64) _ (kinds s) (bodies s) (λ a. elim (typed a) [ ])))
+      rw (le-ltb 251 (length s) h, ours .two, ours .broadcast, low)
+      (read-as _ _ (bodyOf s (getD s 1 0 % 64)) (at-rows FourBody (getD s 1 0 % 64) _ (kinds s) (bodies s (getD s 1 0 % 64)) (λ a. elim (typed a) [ ])))

@@ -3,4 +3,3 @@ pub mod Comparing
 pub mod Rules
 pub mod Coincide
 pub mod Faults
-pub mod Dues

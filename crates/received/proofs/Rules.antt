@@ -1,67 +1,86 @@
--- The rules as the code tests them: what each way of `names_other` and `listen` comes to.
-use Prim.Native.Nat.{ℕ, _+_, _≤_}
-use mathlib.Core.Path.{_≡_, refl, sym, subst, _∙_}
+-- The rules as the code tests them: what each way of `listen` comes to, and what holds of all that may be due.
+use Prim.Native.Nat.{ℕ, _+_, _%_, _≤_}
+use mathlib.Core.Path.{_≡_}
 use mathlib.Core.List.{List}
-use mathlib.Core.Bool.{Bool, true, false, not, _||_}
+use mathlib.Core.Bool.{Bool, true, false, not, _&&_}
 use lib.Dec.{eqb, ltb}
 use lib.ListN.{length, getD}
-use borrow.Author.Tests.{ltb-false, eq-eqb, ne-eqb}
-use Rattle.octets.proofs.Choice.{never}
+use borrow.Author.Tests.{ne-eqb}
+use Rattle.octets.proofs.Choice.{at-cond}
 use Rattle.codes.specs.declared.state.State.the-variants.{U0}
+use Rattle.codes.specs.MessageTypes.{discriminator}
 use Rattle.element.specs.declared.Run.{Run}
 use Rattle.message.specs.declared.Identity.{Identity}
-use Rattle.message.specs.declared.Identity.the-variants.{Absent, Present}
+use Rattle.message.specs.declared.Identity.the-variants.{Present}
 use Rattle.message.specs.declared.Message.{Message}
-use Rattle.message.specs.declared.Message.the-variants.{GetStatus}
 use Rattle.message.specs.declared.Fault.{Fault}
 use Rattle.message.specs.declared.Reading.{Reading}
 use Rattle.message.specs.declared.Reading.the-variants.{Is, Unreadable, TooLong}
 use Rattle.message.specs.Content.{runOctets}
 use Rattle.message.specs.Reading.{readMessage}
 use Rattle.context.specs.declared.Context.{Context}
-use Rattle.context.specs.States.{same}
+use Rattle.context.specs.States.{same, flagOf}
 use Rattle.call.specs.declared.Due.{Due}
-use Rattle.call.specs.declared.Due.the-variants.{Reported}
-use Rattle.received.specs.Received.{isNotOurs, typeCause, sameOctets, namesOther, Within}
+use Rattle.call.specs.declared.Due.the-variants.{Steps, Ignored, Reported}
+use Rattle.call.specs.declared.Event.the-variants.{Received}
+use Rattle.received.specs.Received.{transactionIs, typeCause, askedOf, sameOctets, isOther, Within}
 use Rattle.received.specs.Due.{understoodDue, readingDue, dueOf}
 
--- The identity of a GET STATUS.
-module _ (identity s : List ℕ) (m : Message) (named : Identity) (e : m ≡ GetStatus named) where
-  pub unnamed : named ≡ Absent → false ≡ namesOther identity s m
-  unfolding namesOther
-  unnamed a = rw (e, a)
+-- An identity that is named.
+pub run-within : (s : List ℕ) (named : Identity) (run : Run) → named ≡ Present run → Within s named → run .start + run .count ≤ length s
+unfolding Within
+run-within s named run e w = rw e at w
 
-  pub is-named : (run : Run) (r : Bool) → named ≡ Present run → r ≡ sameOctets (runOctets s run) identity → not r ≡ namesOther identity s m
-  unfolding namesOther
-  is-named run r p q = rw (e, p, q)
+pub is-named : (ours s : List ℕ) (named : Identity) (run : Run) (r : Bool) → named ≡ Present run → r ≡ sameOctets (runOctets s run) ours → not r ≡ isOther ours s named
+unfolding isOther
+is-named ours s named run r e p = rw (e, p)
 
-  pub run-within : (run : Run) → named ≡ Present run → Within s m → run .start + run .count ≤ length s
-  unfolding Within
-  run-within run p w = rw (e, p) at w
+-- What rule 1 lets through.
+pub record Ours (x : Context) (s : List ℕ) : Type 0 where
+  pub calling : same (x .state) U0 ≡ false
+  pub two : ltb (length s) 2 ≡ false
+  pub broadcast : eqb (getD s 0 0 % 16) discriminator ≡ true
+  pub transacted : transactionIs (flagOf x) (x .value) (getD s 0 0) ≡ true
 
--- What rule 1 lets through has two octets.
-pub either-false : (a b : Bool) → (a || b) ≡ false → b ≡ false
-either-false true b e = never (sym e)
-either-false false b e = e
+-- What is left after rule 1 goes by the type, and after rule 2 by what reading gives.
+module _ (identity : List ℕ) (x : Context) (mode : ℕ) (s : List ℕ) (ours : Ours x s) where
+  pub due-typed : (cause : ℕ) → cause ≡ typeCause x (getD s 1 0) → (cause ≡ 0 → ⊥) → Reported cause ≡ dueOf identity x mode s
+  unfolding dueOf
+  due-typed cause e n = rw (ours .calling, ours .two, ours .broadcast, ours .transacted, ← e, ne-eqb cause 0 n)
 
-pub first-false : (a b : Bool) → (a || b) ≡ false → a ≡ false
-first-false true b e = e
-first-false false b e = refl
+  module _ (none : typeCause x (getD s 1 0) ≡ 0) (r : Due) where
+    pub due-read : (flag : Bool) (value : ℕ) (m : Message) → readMessage s ≡ Is flag value m → r ≡ understoodDue identity mode s m → r ≡ dueOf identity x mode s
+    unfolding dueOf readingDue
+    due-read flag value m e p = rw (ours .calling, ours .two, ours .broadcast, ours .transacted, none, e) p
 
-pub ours-two : (x : Context) (s : List ℕ) → isNotOurs x s ≡ false → 2 ≤ length s
-unfolding isNotOurs
-ours-two x s e = ltb-false _ _ (first-false (ltb (length s) 2) _ (either-false (same (x .state) U0) _ e))
+    pub due-wrong : (fault : Fault) → readMessage s ≡ Unreadable fault → r ≡ Reported 96 → r ≡ dueOf identity x mode s
+    unfolding dueOf readingDue
+    due-wrong fault e p = rw (ours .calling, ours .two, ours .broadcast, ours .transacted, none, e) p
 
--- What is left after rules 1 and 2 goes by what reading gives.
-module _ (identity : List ℕ) (x : Context) (mode : ℕ) (s : List ℕ) (ours : isNotOurs x s ≡ false) (none : typeCause x (getD s 1 0) ≡ 0) (r : Due) where
-  pub due-read : (flag : Bool) (value : ℕ) (m : Message) → readMessage s ≡ Is flag value m → r ≡ understoodDue identity mode s m → r ≡ dueOf identity x mode s
-  unfolding dueOf readingDue
-  due-read flag value m e p = rw (ours, none, e) p
+    pub due-long : readMessage s ≡ TooLong → r ≡ Reported 96 → r ≡ dueOf identity x mode s
+    unfolding dueOf readingDue
+    due-long e p = rw (ours .calling, ours .two, ours .broadcast, ours .transacted, none, e) p
 
-  pub due-wrong : (fault : Fault) → readMessage s ≡ Unreadable fault → r ≡ Reported 96 → r ≡ dueOf identity x mode s
-  unfolding dueOf readingDue
-  due-wrong fault e p = rw (ours, none, e) p
+-- What holds of "ignored", of each report and of the step of each message holds of what is due to any octets.
+module _ (P : Due → Type 0) (ignored : P Ignored) (reported : (cause : ℕ) → P (Reported cause)) (steps : (mode : ℕ) (m : Message) → P (Steps (Received mode m))) where
+  every-understood : (identity : List ℕ) (mode : ℕ) (s : List ℕ) (m : Message) → P (understoodDue identity mode s m)
+  unfolding understoodDue
+  every-understood identity mode s m =
+      at-cond P (eqb mode 1 && isOther identity s (askedOf m .identity)) _ _ (λ e. ignored)
+      (λ e. at-cond P (askedOf m .disowns) _ _ (λ e. reported 95) (λ e. steps mode m))
 
-  pub due-long : readMessage s ≡ TooLong → r ≡ Reported 96 → r ≡ dueOf identity x mode s
-  unfolding dueOf readingDue
-  due-long e p = rw (ours, none, e) p
+  every-read : (identity : List ℕ) (mode : ℕ) (s : List ℕ) (r : Reading) → P (readingDue (understoodDue identity mode s) r)
+  unfolding readingDue
+  every-read identity mode s (Is flag value m) = every-understood identity mode s m
+  every-read identity mode s (Unreadable fault) = reported 96
+  every-read identity mode s TooLong = reported 96
+
+  pub every-due : (identity : List ℕ) (x : Context) (mode : ℕ) (s : List ℕ) → P (dueOf identity x mode s)
+  unfolding dueOf
+  every-due identity x mode s =
+      at-cond P (same (x .state) U0) _ _ (λ e. ignored)
+      (λ e. at-cond P (ltb (length s) 2) _ _ (λ e. ignored)
+      (λ e. at-cond P (not (eqb (getD s 0 0 % 16) discriminator)) _ _ (λ e. ignored)
+      (λ e. at-cond P (not (transactionIs (flagOf x) (x .value) (getD s 0 0))) _ _ (λ e. ignored)
+      (λ e. at-cond P (not (eqb (typeCause x (getD s 1 0)) 0)) _ _ (λ e. reported (typeCause x (getD s 1 0)))
+      (λ e. every-read identity mode s (readMessage s))))))

@@ -1,34 +1,48 @@
--- Document 01, "Received messages, in this order": what is due to a message by the six rules, before it is done.
-use Prim.Native.Nat.{ℕ}
+-- Document 01, "Received messages, in this order": the six rules, as what is due to a message. `call/specs/Due: settled` says what each comes to.
+use Prim.Native.Nat.{ℕ, _%_}
 use mathlib.Core.List.{List}
-use mathlib.Core.Bool.{cond, _&&_}
-use lib.ListN.{getD}
-use lib.Dec.{eqb}
+use mathlib.Core.Bool.{cond, not, _&&_}
+use lib.ListN.{length, getD}
+use lib.Dec.{eqb, ltb}
+use Rattle.codes.specs.declared.state.State.the-variants.{U0}
+use Rattle.codes.specs.MessageTypes.{discriminator}
 use Rattle.message.specs.declared.Message.{Message}
 use Rattle.message.specs.declared.Reading.{Reading}
 use Rattle.message.specs.declared.Reading.the-variants.{Is, Unreadable, TooLong}
 use Rattle.message.specs.Reading.{readMessage}
 use Rattle.context.specs.declared.Context.{Context}
+use Rattle.context.specs.States.{same, flagOf}
 use Rattle.call.specs.declared.Due.{Due}
 use Rattle.call.specs.declared.Due.the-variants.{Steps, Ignored, Reported}
 use Rattle.call.specs.declared.Event.the-variants.{Received}
-use Rattle.received.specs.Received.{isNotOurs, typeCause, namesOther, disowns}
+use Rattle.received.specs.Received.{transactionIs, typeCause, askedOf, mustNameUs, isOther}
 
--- Rules 4, 5 and 6.
+-- Rules 4 to 6, of a message that can be read.
 unfoldable pub understoodDue : List ℕ → ℕ → List ℕ → Message → Due
 understoodDue identity mode s message =
-    cond (eqb mode 1 && namesOther identity s message) Ignored (cond (disowns message) (Reported 95) (Steps (Received mode message)))
+    -- 4. Received in unacknowledged mode with a mobile identity other than ours: ignored.
+    cond (eqb mode 1 && isOther identity s (askedOf message .identity)) Ignored
+    -- 5. CONNECT that doesn't name us as originator: reported as "semantically incorrect message", 95.
+    (cond (mustNameUs && askedOf message .disowns) (Reported 95)
+    -- 6. The step.
+    (Steps (Received mode message)))
 
--- Rule 3.
+-- 3. Mandatory part wrong, or an unknown element whose identifier has bits 8 to 5 all zero: reported as "invalid mandatory information", 96.
+-- (After rules 1 and 2 a message that can't be read has no other fault.)
 unfoldable pub readingDue : (Message → Due) → Reading → Due
 readingDue go (Is flag value message) = go message
 readingDue go (Unreadable fault) = Reported 96
 readingDue go TooLong = Reported 96
 
--- Rules 1 and 2 before them.
+-- The six rules in their order.
 unfoldable pub dueOf : List ℕ → Context → ℕ → List ℕ → Due
 dueOf identity x mode s =
-    cond (isNotOurs x s) Ignored
-    (cond (eqb (typeCause x (getD s 1 0)) 0)
-    (readingDue (understoodDue identity mode s) (readMessage s))
-    (Reported (typeCause x (getD s 1 0))))
+    -- 1. U0, under 2 octets, low four bits of octet 1 not 1, or transaction mismatch: ignored.
+    cond (same (x .state) U0) Ignored
+    (cond (ltb (length s) 2) Ignored
+    (cond (not (eqb (getD s 0 0 % 16) discriminator)) Ignored
+    (cond (not (transactionIs (flagOf x) (x .value) (getD s 0 0))) Ignored
+    -- 2. Unknown type: reported. A type with no row or sentence above in this state, or one the MS sends: reported as not compatible with the state.
+    (cond (not (eqb (typeCause x (getD s 1 0)) 0)) (Reported (typeCause x (getD s 1 0)))
+    -- 3. to 6.
+    (readingDue (understoodDue identity mode s) (readMessage s))))))

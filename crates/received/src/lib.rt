@@ -3,7 +3,7 @@ ghost use mathlib.Core.Path.{_≡_};
 ghost use lib.ListN.{length};
 ghost use Prim.Native.Nat.{_+_, _≤_};
 ghost use Rattle.octets.specs.Run.{part};
-ghost use Rattle.received.specs.Received.{sameOctets, transactionIs, isNotOurs, causeIn, typeCause, namesOther, disowns, Within};
+ghost use Rattle.received.specs.Received.{sameOctets, transactionIs, causeIn, typeCause, askedOf, isOther, Within};
 ghost use Rattle.received.specs.Due.{dueOf, understoodDue};
 use call::Due;
 use call::Event;
@@ -26,31 +26,12 @@ fn transaction_is(flag: bool, value: u8, first: u8) -> bool
     upper == wanted
 }
 
-// Rule 1: U0, under 2 octets, another protocol or another transaction.
-fn is_not_ours(context: Context, octets: &[u8]) -> bool
-    ensures { λ r. ⌜ r ≡ isNotOurs context (now (octets .entry)) ⌝ }
-{
-    let state = context.state;
-    if context::state_number(state) == 0 {
-        return true;
-    }
-    if octets.len() < 2 {
-        return true;
-    }
-    let first = octets[0];
-    if first % 16 != 1 {
-        return true;
-    }
-    let flag = context::expected_flag(state);
-    !transaction_is(flag, context.value, first)
-}
-
 // The cause that a decision reports, and 0 where it reports none.
 fn cause_in(decision: Decision) -> u8
     ensures { λ r. ⌜ r ≡ causeIn decision ⌝ }
 {
     match decision {
-        Decision::Take(_, _, _, _, _) => 0,
+        Decision::Take(_) => 0,
         Decision::NoStep => 0,
         Decision::Ignore => 0,
         Decision::Report(cause) => cause,
@@ -66,7 +47,7 @@ fn type_cause(context: Context, kind: u8) -> u8
     if 128 <= kind {
         return 97;
     }
-    let decision = transitions::decide_heard(context, kind % 64);
+    let decision = message_rows::decide(context, kind % 64);
     cause_in(decision)
 }
 
@@ -80,78 +61,73 @@ fn is_same(octets: &[u8], run: Run, identity: &[u8]) -> bool
     check::same(&octets[start..end], identity)
 }
 
-// Rule 4: whether the message has a mobile identity other than ours.
-fn names_other(message: Message, octets: &[u8], identity: &[u8]) -> bool
-    requires { ⌜ Within (now octets) message ⌝ }
-    ensures { λ r. ⌜ r ≡ namesOther (now (identity .entry)) (now (octets .entry)) message ⌝ }
+// What rules 4 and 5 ask of a message: the mobile identity that it has, and whether it is a CONNECT that doesn't name us as originator.
+struct Asked {
+    identity: Identity,
+    disowns: bool,
+}
+
+fn ask(message: Message) -> Asked
+    ensures { λ r. ⌜ r ≡ askedOf message ⌝ }
 {
+    let nothing = Asked {
+        identity: Identity::Absent,
+        disowns: false,
+    };
     match message {
         Message::Connect {
             reference: _,
-            originator: _,
-        } => false,
-        Message::GetStatus { identity: named } => match named {
-            Identity::Absent => false,
-            Identity::Present(run) => !is_same(octets, run, identity),
+            originator,
+        } => Asked {
+            identity: Identity::Absent,
+            disowns: originator != 1,
+        },
+        Message::GetStatus { identity } => Asked {
+            identity,
+            disowns: false,
         },
         Message::ImmediateSetup {
             key: _,
             classmark: _,
             identity: _,
             reference: _,
-        } => false,
-        Message::SetParameter { attributes: _ } => false,
-        Message::Setup { reference: _ } => false,
+        } => nothing,
+        Message::SetParameter { attributes: _ } => nothing,
+        Message::Setup { reference: _ } => nothing,
         Message::Status {
             cause: _,
             state: _,
             attributes: _,
-        } => false,
-        Message::Termination { cause: _ } => false,
-        Message::TerminationReject { cause: _ } => false,
-        Message::TerminationRequest { reference: _ } => false,
+        } => nothing,
+        Message::Termination { cause: _ } => nothing,
+        Message::TerminationReject { cause: _ } => nothing,
+        Message::TerminationRequest { reference: _ } => nothing,
     }
 }
 
-// Rule 5: whether the message is a CONNECT that doesn't name us as originator.
-fn is_disowning(message: Message) -> bool
-    ensures { λ r. ⌜ r ≡ disowns message ⌝ }
+// Whether an identity is other than ours.
+fn is_other(named: Identity, octets: &[u8], ours: &[u8]) -> bool
+    requires { ⌜ Within (now octets) named ⌝ }
+    ensures { λ r. ⌜ r ≡ isOther (now (ours .entry)) (now (octets .entry)) named ⌝ }
 {
-    match message {
-        Message::Connect {
-            reference: _,
-            originator,
-        } => originator != 1,
-        Message::GetStatus { identity: _ } => false,
-        Message::ImmediateSetup {
-            key: _,
-            classmark: _,
-            identity: _,
-            reference: _,
-        } => false,
-        Message::SetParameter { attributes: _ } => false,
-        Message::Setup { reference: _ } => false,
-        Message::Status {
-            cause: _,
-            state: _,
-            attributes: _,
-        } => false,
-        Message::Termination { cause: _ } => false,
-        Message::TerminationReject { cause: _ } => false,
-        Message::TerminationRequest { reference: _ } => false,
+    match named {
+        Identity::Absent => false,
+        Identity::Present(run) => !is_same(octets, run, ours),
     }
 }
 
 // Rules 4 to 6: a message that can be read.
 fn understand(identity: &[u8], mode: u8, octets: &[u8], message: Message) -> Due
-    requires { ⌜ Within (now octets) message ⌝ }
+    requires { ⌜ Within (now octets) (askedOf message .identity) ⌝ }
     ensures { λ r. ⌜ r ≡ understoodDue (now (identity .entry)) mode (now (octets .entry)) message ⌝ }
 {
-    let other = names_other(message, octets, identity);
+    let asked = ask(message);
+    let named = asked.identity;
+    let other = is_other(named, octets, identity);
     if (mode == 1) & other {
         return Due::Ignored;
     }
-    if is_disowning(message) {
+    if asked.disowns {
         return Due::Reported(95);
     }
     Due::Steps(Event::Received(mode, message))
@@ -161,7 +137,19 @@ fn understand(identity: &[u8], mode: u8, octets: &[u8], message: Message) -> Due
 pub fn listen(context: Context, identity: &[u8], mode: u8, octets: &[u8]) -> Due
     ensures { λ r. ⌜ r ≡ dueOf (now (identity .entry)) context mode (now (octets .entry)) ⌝ }
 {
-    if is_not_ours(context, octets) {
+    let state = context.state;
+    if context::state_number(state) == 0 {
+        return Due::Ignored;
+    }
+    if octets.len() < 2 {
+        return Due::Ignored;
+    }
+    let first = octets[0];
+    if first % 16 != 1 {
+        return Due::Ignored;
+    }
+    let flag = context::expected_flag(context);
+    if !transaction_is(flag, context.value, first) {
         return Due::Ignored;
     }
     let cause = type_cause(context, octets[1]);

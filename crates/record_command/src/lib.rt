@@ -6,9 +6,9 @@ use fields::words::number_word;
 use fields::words::octets_word;
 use fields::words::reference_word;
 use log::Reference;
-use recorder::Claims;
-use recorder::Happened;
 use recorder::Recorded;
+use recorder_size::Claims;
+use recorder_size::TimedEvent;
 use saying::say;
 use saying::say_decimal;
 use saying::say_hex;
@@ -17,12 +17,13 @@ use text::output::put;
 use text::words::Words;
 use text::words::finished;
 use text::words::part;
+use version::Table;
 
 // The greatest number that a word may have.
 const MOST: u64 = 4294967295;
 
 struct HappenedWord {
-    happened: Happened,
+    happened: TimedEvent,
     words: Words,
 }
 
@@ -71,7 +72,7 @@ fn happened_word(line: &[u8], words: Words) -> HappenedWord {
     let reference = call.reference;
     let mode = number_word(line, call_words, MOST);
     let next = mode.words;
-    let happened = Happened {
+    let happened = TimedEvent {
         delta: delta.value as u32,
         event: event.value as u32,
         value: value.value as u32,
@@ -167,7 +168,7 @@ fn say_recorded(
     octets: &mut [u8],
     size: usize,
     used: usize,
-    happened: Happened,
+    happened: TimedEvent,
     heard: Place,
     claims: Claims,
     sent: Place,
@@ -180,6 +181,7 @@ fn say_recorded(
     let mut reply = [0u8; 256];
     let replied = first_octets(octets, sent.start, sent.count, &mut reply);
     let recorded = recorder::record_entry(
+        Table::First,
         &mut octets[0..size],
         used,
         happened,

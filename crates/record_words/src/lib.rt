@@ -14,7 +14,7 @@ use making::make;
 use refusal::tell_too_long;
 use saying::tell;
 use saying::tell_count;
-use settings::Settings;
+use settings_values::Settings;
 use text::words::part;
 
 // Room for a script whose log is as long as can be.

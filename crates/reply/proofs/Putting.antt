@@ -19,11 +19,11 @@ use Rattle.message.specs.declared.Half.{Half}
 use Rattle.message.specs.declared.Half.the-variants.{Present}
 use Rattle.message.specs.declared.Message.{Message}
 use Rattle.message.specs.declared.Message.the-variants.{ImmediateSetup, Setup, TerminationRequest, Status}
-use Rattle.message.specs.Content.{Content, immediateSetup, setup, terminationRequest, status}
+use Rattle.message.specs.Content.{Content, immediateSetup, setup, terminationRequest, status, lies}
 use Rattle.message.specs.Tables.{written, fits}
 use Rattle.writing.specs.declared.Wrote.{Wrote}
 use Rattle.writing.specs.declared.Wrote.the-variants.{Written, ShortBuffer, OutOfRange}
-use Rattle.writing.specs.Writing.{lies, writable, octetsWritten, writeAnswer, writeLeaves}
+use Rattle.writing.specs.Writing.{writable, octetsWritten, writeAnswer, writeLeaves}
 use Rattle.context.specs.declared.Context.{Context}
 use Rattle.context.specs.States.{flagOf}
 use Rattle.transitions.specs.declared.Send.{Send}
@@ -44,7 +44,7 @@ left false true d w = refl
 left false false d w = refl
 
 -- `put_message`: the flag is the opposite of the one expected, and the count what the writer answers.
-module _ (d s : List ℕ) (x : Context) (m : Message) (f : Bool) (e : f ≡ flagOf (x .state)) where
+module _ (d s : List ℕ) (x : Context) (m : Message) (f : Bool) (e : f ≡ flagOf x) where
   pub put-count : (w : Wrote) (n : ℕ) → w ≡ writeAnswer d s (not f) (x .value) m → n ≡ countOf w → n ≡ length (putFrom (length d) s x m)
   unfolding writeAnswer putFrom
   put-count w n p q = q ∙ ap countOf (p ∙ ap (λ (g : Bool). writeAnswer d s (not g) (x .value) m) e)

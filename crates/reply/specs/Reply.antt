@@ -17,7 +17,7 @@ use Rattle.reply.specs.declared.Own.{Own}
 
 -- Rule 1: the transaction carries our value; we send the opposite flag of the one we expect.
 abbrev pub flagSent : Context → Bool
-flagSent x = not (flagOf (x .state))
+flagSent x = not (flagOf x)
 
 -- A message of the context's transaction, as octets.
 unfoldable pub sent : Context → Content → List ℕ

@@ -41,8 +41,7 @@ fn put_message(reply: &mut [u8], source: &[u8], context: Context, message: Messa
     ensures { λ r. ⌜ r ≡ length (putFrom (length (now (reply .entry))) (now (source .entry)) context message) ⌝ }
     ensures { λ _. ⌜ now (reply .exit) ≡ sets (now (reply .entry)) 0 (putFrom (length (now (reply .entry))) (now (source .entry)) context message) ⌝ }
 {
-    let state = context.state;
-    let flag = context::expected_flag(state);
+    let flag = context::expected_flag(context);
     let wrote = writing::write(reply, source, !flag, context.value, message);
     written_count(wrote)
 }

@@ -1,54 +1,88 @@
 -- Reading and writing by the numbers of document 01: "Message reading alone .. answers 6, else 0 .., else 13"; "Writing one answers 5 .., then 4 .., else 0".
-use Prim.Native.Nat.{ℕ, _%_, _<_}
-use mathlib.Core.Path.{_≡_, refl}
-use mathlib.Core.Bool.{Bool, true, false, cond}
+use Prim.Native.Nat.{ℕ, _<_}
+use mathlib.Core.Path.{_≡_, refl, sym, ap, _∙_}
+use mathlib.Core.Bool.{Bool, true, false, cond, not, _&&_}
 use mathlib.Core.List.{List}
 use mathlib.Core.Logic.{_↔_}
-use native.Mathlib.Omega.{arith}
-use lib.Dec.{ltb, leb, eqb}
-use lib.ListN.{length, getD}
-use borrow.Author.Tests.{ltb-true, lt-ltb}
-use Rattle.octets.proofs.Choice.{at-cond}
-use Rattle.codes.specs.MessageTypes.{discriminator}
+use lib.Dec.{ltb, eqb}
+use lib.ListN.{length}
+use borrow.Author.Tests.{ltb-true, lt-ltb, eqb-true, eq-eqb}
 use Rattle.message.specs.declared.Message.{Message}
-use Rattle.message.specs.declared.Body.{Body}
-use Rattle.message.specs.declared.Body.the-variants.{Is, Wrong}
-use Rattle.message.specs.declared.Reading.{Reading}
 use Rattle.message.specs.Answers.{readingNumber}
-use Rattle.message.specs.Reading.{bodyOf, readAs, readMessage}
+use Rattle.message.specs.Reading.{readMessage}
 use Rattle.writing.specs.declared.Wrote.{Wrote}
 use Rattle.writing.specs.declared.Wrote.the-variants.{Written, ShortBuffer, OutOfRange}
 use Rattle.writing.specs.Writing.{writable, octetsWritten, writeAnswer, writeLeaves, writtenNumber}
 use Rattle.roundtrip.specs.Back.{Told}
+use Rattle.roundtrip.specs.Faults.{tooLong, tooShort, ours, typed, ruleThree, numberBy, faultBy, faultRead}
 use Rattle.roundtrip.proofs.RoundTrip.{write-told}
+use Rattle.roundtrip.proofs.Faults.{reading-numbered}
 
 -- ---- reading
 
-abbrev NotSix : Reading → Type 0
-NotSix r = readingNumber r ≡ 6 → ⊥
+-- A number is this one exactly where its test says so.
+by-test : (m n : ℕ) (t : Bool) → eqb m n ≡ t → (m ≡ n) ↔ (t ≡ true)
+by-test m n t e = (λ h. sym e ∙ eq-eqb m n h, λ h. eqb-true m n (e ∙ h))
 
-body-not-six : (flag : Bool) (value : ℕ) (b : Body) → NotSix (readAs flag value b)
-body-not-six flag value (Is message) h = omega (arith, h)
-body-not-six flag value (Wrong fault) h = omega (arith, h)
+-- What the numbers by five conditions say: each exactly on its own, where none before it holds.
+record Exact (long short our type wrong : Bool) : Type 0 where
+  six : eqb (numberBy long short our type wrong) 6 ≡ long
+  one : eqb (faultBy long short our type wrong) 1 ≡ (not long && short)
+  two : eqb (faultBy long short our type wrong) 2 ≡ (not long && not short && not our)
+  three : eqb (faultBy long short our type wrong) 3 ≡ (not long && not short && our && not type)
+  four : eqb (faultBy long short our type wrong) 4 ≡ (not long && not short && our && type && wrong)
+  nought : eqb (numberBy long short our type wrong) 0 ≡ (not long && not short && our && type && not wrong)
+  thirteen : eqb (numberBy long short our type wrong) 13 ≡ not (eqb (faultBy long short our type wrong) 0)
+
+exact : (long short our type wrong : Bool) → Exact long short our type wrong
+exact true short our type wrong = record { six = refl; one = refl; two = refl; three = refl; four = refl; nought = refl; thirteen = refl }
+exact false true our type wrong = record { six = refl; one = refl; two = refl; three = refl; four = refl; nought = refl; thirteen = refl }
+exact false false false type wrong = record { six = refl; one = refl; two = refl; three = refl; four = refl; nought = refl; thirteen = refl }
+exact false false true false wrong = record { six = refl; one = refl; two = refl; three = refl; four = refl; nought = refl; thirteen = refl }
+exact false false true true true = record { six = refl; one = refl; two = refl; three = refl; four = refl; nought = refl; thirteen = refl }
+exact false false true true false = record { six = refl; one = refl; two = refl; three = refl; four = refl; nought = refl; thirteen = refl }
 
 module _ (s : List ℕ) where
-  not-six : ltb 251 (length s) ≡ false → NotSix (readMessage s)
-  unfolding readMessage
-  not-six q =
-      rw q
-      (at-cond NotSix (ltb (length s) 2) _ _ (λ e h. omega (arith, h))
-      (λ e. at-cond NotSix (eqb (getD s 0 0 % 16) discriminator) _ _
-      (λ e. at-cond NotSix (leb 128 (getD s 1 0)) _ _ (λ e h. omega (arith, h)) (λ e. body-not-six _ _ (bodyOf s (getD s 1 0 % 64))))
-      (λ e h. omega (arith, h))))
+  tested : Exact (tooLong s) (tooShort s) (ours s) (typed s) (ruleThree s)
+  tested = exact (tooLong s) (tooShort s) (ours s) (typed s) (ruleThree s)
+
+  number-is : (n : ℕ) (t : Bool) → eqb (numberBy (tooLong s) (tooShort s) (ours s) (typed s) (ruleThree s)) n ≡ t
+      → (readingNumber (readMessage s) ≡ n) ↔ (t ≡ true)
+  number-is n t e = by-test (readingNumber (readMessage s)) n t (ap (λ (m : ℕ). eqb m n) (reading-numbered s .0) ∙ e)
+
+  fault-is : (n : ℕ) (t : Bool) → eqb (faultBy (tooLong s) (tooShort s) (ours s) (typed s) (ruleThree s)) n ≡ t
+      → (faultRead (readMessage s) ≡ n) ↔ (t ≡ true)
+  fault-is n t e = by-test (faultRead (readMessage s)) n t (ap (λ (m : ℕ). eqb m n) (reading-numbered s .1) ∙ e)
 
   -- 6 exactly for over 251 octets.
   pub reading-six : (readingNumber (readMessage s) ≡ 6) ↔ (251 < length s)
-  unfolding readMessage
-  reading-six = (λ h. go (ltb 251 (length s)) refl h, λ h. rw (lt-ltb 251 (length s) h))
-    where
-      go : (b : Bool) → ltb 251 (length s) ≡ b → readingNumber (readMessage s) ≡ 6 → 251 < length s
-      go true q h = ltb-true 251 (length s) q
-      go false q h = absurd (not-six q h)
+  reading-six =
+      let six : (readingNumber (readMessage s) ≡ 6) ↔ (tooLong s ≡ true) = number-is 6 (tooLong s) (tested .six) in
+      (λ h. ltb-true 251 (length s) (six .0 h), λ h. six .1 (lt-ltb 251 (length s) h))
+
+  -- Else 13 exactly where there is a fault: 1 exactly for under 2 octets;
+  pub reading-thirteen : (readingNumber (readMessage s) ≡ 13) ↔ (not (eqb (faultRead (readMessage s)) 0) ≡ true)
+  reading-thirteen =
+      number-is 13 (not (eqb (faultRead (readMessage s)) 0)) (tested .thirteen ∙ ap (λ (n : ℕ). not (eqb n 0)) (sym (reading-numbered s .1)))
+
+  pub reading-fault-one : (faultRead (readMessage s) ≡ 1) ↔ (not (tooLong s) && tooShort s ≡ true)
+  reading-fault-one = fault-is 1 _ (tested .one)
+
+  -- 2 exactly for another discriminator, where neither holds;
+  pub reading-fault-two : (faultRead (readMessage s) ≡ 2) ↔ (not (tooLong s) && not (tooShort s) && not (ours s) ≡ true)
+  reading-fault-two = fault-is 2 _ (tested .two)
+
+  -- 3 exactly for a type without a table, where none of these holds;
+  pub reading-fault-three : (faultRead (readMessage s) ≡ 3) ↔ (not (tooLong s) && not (tooShort s) && ours s && not (typed s) ≡ true)
+  reading-fault-three = fault-is 3 _ (tested .three)
+
+  -- 4 exactly where rule 3 finds a fault, where none of these holds.
+  pub reading-fault-four : (faultRead (readMessage s) ≡ 4) ↔ (not (tooLong s) && not (tooShort s) && ours s && typed s && ruleThree s ≡ true)
+  reading-fault-four = fault-is 4 _ (tested .four)
+
+  -- 0 exactly where nothing of all this holds.
+  pub reading-nought : (readingNumber (readMessage s) ≡ 0) ↔ (not (tooLong s) && not (tooShort s) && ours s && typed s && not (ruleThree s) ≡ true)
+  reading-nought = number-is 0 _ (tested .nought)
 
 -- ---- writing
 

@@ -25,7 +25,7 @@ use Rattle.message.specs.Content.{
   terminationRequest,
 }
 use Rattle.message.specs.Tables.{formatTV, table, typeOf, written, fits, rowsFit, countFits, elementFits}
-use Rattle.writing.proofs.Tests.{and-left, and-right}
+use Rattle.limits.proofs.Tests.{and-left, and-right}
 
 abbrev pub HalfDrawn : Half → Type 0
 HalfDrawn Absent = Unit {0}

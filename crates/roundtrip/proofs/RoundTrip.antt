@@ -32,6 +32,7 @@ use Rattle.message.specs.Content.{
   present,
   Content,
   contentOf,
+  runsLie,
   referenceOctets,
   connect,
   getStatus,
@@ -48,9 +49,9 @@ use Rattle.message.specs.Reading.{readAs, bodyOf, readMessage}
 use Rattle.message.proofs.Bodies.{head-good}
 use Rattle.writing.specs.declared.Wrote.{Wrote}
 use Rattle.writing.specs.declared.Wrote.the-variants.{Written, ShortBuffer, OutOfRange}
-use Rattle.writing.specs.Writing.{runsLie, writable, writeAnswer, writeLeaves}
+use Rattle.writing.specs.Writing.{writable, writeAnswer, writeLeaves}
 use Rattle.writing.specs.Bodies.{halfOctets}
-use Rattle.writing.proofs.Tests.{and-right}
+use Rattle.limits.proofs.Tests.{and-right}
 use Rattle.roundtrip.specs.Back.{Says, GivesBack, Stood, Told}
 use Rattle.roundtrip.proofs.Drawn.{Drawn, Fitting, fitting}
 use Rattle.roundtrip.proofs.ByKind.{

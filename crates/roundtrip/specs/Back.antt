@@ -2,7 +2,7 @@
 use Prim.Native.Nat.{ℕ}
 use mathlib.Core.Path.{_≡_}
 use mathlib.Core.List.{List}
-use mathlib.Core.Bool.{Bool}
+use mathlib.Core.Bool.{Bool, true}
 use lib.ListN.{take, drop}
 use Rattle.message.specs.declared.Reading.{Reading}
 use Rattle.message.specs.declared.Reading.the-variants.{Is, Unreadable, TooLong}
@@ -10,6 +10,7 @@ use Rattle.message.specs.Content.{Content, contentOf}
 use Rattle.message.specs.declared.Message.{Message}
 use Rattle.message.specs.Tables.{written}
 use Rattle.message.specs.Reading.{readMessage}
+use Rattle.writing.specs.Writing.{writable, octetsWritten}
 use Rattle.writing.specs.declared.Wrote.{Wrote}
 use Rattle.writing.specs.declared.Wrote.the-variants.{Written, ShortBuffer, OutOfRange}
 
@@ -22,6 +23,12 @@ Says s flag value content TooLong = ⊥
 -- Reading `s` gives these back.
 abbrev pub GivesBack : List ℕ → Bool → ℕ → Content → Type 0
 GivesBack s flag value content = Says s flag value content (readMessage s)
+
+-- A reading of the octets `s`, written again, is `s`: it is a message, which can be written, and its octets are these.
+abbrev pub WritesAgain : List ℕ → Reading → Type 0
+WritesAgain s (Is f v message) = (writable s f v message ≡ true) × (octetsWritten s f v message ≡ s)
+WritesAgain s (Unreadable fault) = ⊥
+WritesAgain s TooLong = ⊥
 
 -- A message whose runs lie in `s` stands in the buffer, which held `d` and now holds `e`: over its start are the `n` octets of the table, they give the
 -- message back, and each octet behind them is as it was.

@@ -7,9 +7,10 @@ use crate::tell_number;
 use crate::tell_octet;
 use crate::tell_place;
 use crate::write_text;
+use causes::Cause;
+use causes::cause_said;
 use codes::attributes::parameters_of;
-use codes::cause::Cause;
-use codes::cause::cause_of;
+use codes::message_type;
 use codes::state::CallState;
 use codes::state::State;
 use codes::state::call_state_of;
@@ -47,15 +48,15 @@ fn tell_line(text: &[u8], number: u8) {
 
 fn kind_line(kind: u8) -> u8 {
     match kind {
-        0x31 => 0,
-        0x32 => 1,
-        0x33 => 2,
-        0x34 => 3,
-        0x35 => 4,
-        0x36 => 5,
-        0x38 => 6,
-        0x39 => 7,
-        0x3a => 8,
+        message_type::IMMEDIATE_SETUP => 0,
+        message_type::SETUP => 1,
+        message_type::CONNECT => 2,
+        message_type::TERMINATION => 3,
+        message_type::TERMINATION_REQUEST => 4,
+        message_type::TERMINATION_REJECT => 5,
+        message_type::STATUS => 6,
+        message_type::GET_STATUS => 7,
+        message_type::SET_PARAMETER => 8,
         _ => 9,
     }
 }
@@ -83,15 +84,15 @@ pub fn write_kind(descriptor: i32, kind: u8) {
 pub fn tell_kind(kind: u8) {
     write_kind(STDOUT_FILENO, kind);
     match kind {
-        0x31 => tell(b", MS to network"),
-        0x32 => tell(b", MS to network"),
-        0x35 => tell(b", MS to network"),
-        0x38 => tell(b", MS to network"),
-        0x33 => tell(b", network to MS"),
-        0x34 => tell(b", network to MS"),
-        0x36 => tell(b", network to MS"),
-        0x39 => tell(b", network to MS"),
-        0x3a => tell(b", network to MS"),
+        message_type::IMMEDIATE_SETUP => tell(b", MS to network"),
+        message_type::SETUP => tell(b", MS to network"),
+        message_type::TERMINATION_REQUEST => tell(b", MS to network"),
+        message_type::STATUS => tell(b", MS to network"),
+        message_type::CONNECT => tell(b", network to MS"),
+        message_type::TERMINATION => tell(b", network to MS"),
+        message_type::TERMINATION_REJECT => tell(b", network to MS"),
+        message_type::GET_STATUS => tell(b", network to MS"),
+        message_type::SET_PARAMETER => tell(b", network to MS"),
         _ => {}
     }
 }
@@ -127,9 +128,9 @@ fn cause_line(cause: Cause) -> u8 {
     }
 }
 
-// The words of table 9.4 for a cause's number.
-pub fn tell_cause(number: u8) {
-    let line = cause_line(cause_of(number));
+// The words of table 9.4 for the cause that the first octet of its value says.
+pub fn tell_cause(first: u8) {
+    let line = cause_line(cause_said(first));
     tell_line(
         b"Illegal MS\n\
           IMEI not accepted\n\

@@ -1,12 +1,3 @@
 pub mod Coincide
-pub mod Digits
-pub mod Exact
-pub mod Faults
 pub mod Lines
-pub mod Names
-pub mod Only
-pub mod Texts
-pub mod Turns
-pub mod Values
-pub mod Verdict
 pub mod Walk

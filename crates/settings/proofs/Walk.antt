@@ -9,12 +9,13 @@ use lib.ListN.{length, drop, length-drop, drop-of-length-le}
 use lib.Seq.{take-length, drop-drop}
 use Rattle.bytes.specs.Bytes.{indexOf, slice}
 use Rattle.octets.specs.Run.{part}
-use Rattle.settings.specs.declared.Fault.the-variants.{NoLineFeed}
-use Rattle.settings.specs.declared.Seen.{Seen}
-use Rattle.settings.specs.declared.Turn.{Turn}
+use Rattle.settings_line.specs.declared.Fault.the-variants.{NoLineFeed}
+use Rattle.settings_line.specs.declared.Seen.{Seen}
+use Rattle.settings_line.specs.declared.Turn.{Turn}
 use Rattle.settings.specs.declared.ReadSettings.{ReadSettings}
 use Rattle.settings.specs.Lines.{Ended, lines}
-use Rattle.settings.specs.Settings.{meaning, settingOf, turnOf, refusedAt, endOf, readFrom}
+use Rattle.settings_line.specs.Line.{settingOf, turnOf}
+use Rattle.settings.specs.Settings.{meaning, refusedAt, endOf, readFrom}
 use Rattle.settings.proofs.Lines.{line-ended, line-cut}
 
 -- What the file from a place on makes of what is seen before it.

@@ -1,6 +1,2 @@
-pub mod Digits
 pub mod Lines
-pub mod Promise
 pub mod Settings
-pub mod Values
-pub mod Written

@@ -5,9 +5,8 @@ use mathlib.Core.List.{List}
 use native.Mathlib.Omega.{arith}
 use lib.ListN.{length, take, getD, replicate, length-append, length-replicate}
 use borrow.Author.Tests.{le-ltb}
-use Rattle.settings.specs.declared.Settings.{Settings}
-use Rattle.settings.specs.Settings.{padded}
-use Rattle.settings.specs.Written.{InRange}
+use Rattle.settings_values.specs.declared.Settings.{Settings}
+use Rattle.settings_values.specs.Values.{padded, InRange}
 use Rattle.octets.proofs.Listed.{all-listed}
 use Rattle.settings_octets.specs.Octets.{identityOf, lengthOctet, octetsOf, ownOf, runOf}
 

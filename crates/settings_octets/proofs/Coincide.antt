@@ -5,7 +5,7 @@ use mathlib.Core.List.{List}
 use Rattle.octets.proofs.Coincide.{coincide}
 use Rattle.element.specs.declared.Run.{Run}
 use Rattle.reply.specs.declared.Own.{Own}
-use Rattle.settings.specs.declared.Settings.{Settings}
+use Rattle.settings_values.specs.declared.Settings.{Settings}
 use Rattle.settings_octets.specs.Octets.{identityRun, octetsOf, ownOf}
 
 pub own-of-coincides : (s : List ℕ) (a b : Own) → a ≡ ownOf s → b ≡ ownOf s → a ≡ b

@@ -7,7 +7,7 @@ use lib.ListN.{getD}
 use Rattle.octets.specs.Run.{part}
 use Rattle.element.specs.declared.Run.{Run}
 use Rattle.reply.specs.declared.Own.{Own}
-use Rattle.settings.specs.declared.Settings.{Settings}
+use Rattle.settings_values.specs.declared.Settings.{Settings}
 
 -- What a step is told of the station beside its identity.
 unfoldable pub ownOf : List ℕ → Own

@@ -6,7 +6,7 @@ ghost use Rattle.settings_octets.specs.Octets.{identityRun, lengthOctet,
 use element::Run;
 use message::Classmark;
 use reply::Own;
-use settings::Settings;
+use settings_values::Settings;
 
 // What the octets say beside the identity.
 pub fn own_of(octets: &[u8; 13]) -> Own

@@ -5,7 +5,7 @@ use crate::line::tell_number_of;
 use crate::line::tell_text;
 use saying::tell;
 use saying::tell_place;
-use settings::Fault;
+use settings_line::Fault;
 use text::words::find;
 use text::words::part;
 

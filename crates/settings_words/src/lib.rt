@@ -10,9 +10,9 @@ use saying::tell;
 use saying::tell_hex;
 use saying::tell_number;
 use saying::tell_place;
-use settings::Fault;
-use settings::Settings;
 use settings::read_settings;
+use settings_line::Fault;
+use settings_values::Settings;
 use text::words::part;
 
 // Tells the settings that `file`, the bytes of the file at `path`, holds, and answers the verdict. `whole` is false where the file has

@@ -3,7 +3,6 @@ ghost use Prim.Native.Nat.{_≤_};
 use codes::attributes::Parameters;
 use codes::state::State;
 use context::Context;
-use context::Timers;
 use context::state_number;
 use fields::words::reference_word;
 use fields::words::small_word;
@@ -13,6 +12,7 @@ use saying::say_hex;
 use saying::say_number;
 use text::output::Output;
 use text::words::Words;
+use timer::Timers;
 
 // The words as numbers. A state's number may be over 7.
 pub(crate) struct Lent {

@@ -1,25 +1,18 @@
 // The picture's head: how things look, what the picture shows and does not show, what the times say of the joining timer, and what the signs mean.
 use crate::band::Extent;
-use crate::mark::begin_badge;
-use crate::mark::draw_expiry;
-use crate::mark::draw_received;
-use crate::mark::draw_sent;
 use crate::place::MARGIN;
 use crate::place::Place;
-use crate::place::sum;
 use crate::segment::write_bounds;
 use crate::survey::Bounds;
 use crate::survey::Survey;
 use drawing::begin_text;
 use drawing::end_text;
-use drawing::finish;
-use drawing::label;
 use drawing::rectangle;
 use drawing::write_escaped;
+use drawing::write_form;
 use log_words::entry::write_clock;
 use log_words::fault::write_fault;
 use saying::write_count;
-use saying::write_long;
 use saying::write_text;
 
 // Where the first band starts; a log that breaks off has one line more.
@@ -32,18 +25,13 @@ pub(crate) fn top(broken: bool) -> u64 {
 
 pub(crate) fn draw_head(descriptor: i32, log: &[u8], name: &[u8], found: Survey, extent: Extent) {
     let place = found.place;
-    let bounds = found.bounds;
     begin_picture(descriptor, extent.height);
     write_style(descriptor);
-    draw_ground(descriptor, extent.height);
+    rectangle(descriptor, b"strip", 0, 0, 1188, extent.height);
     draw_name(descriptor, name);
     draw_summary(descriptor, place.time, extent);
-    begin_text(descriptor, b"t", MARGIN, 78);
-    write_timer(descriptor, bounds, place.joined);
-    end_text(descriptor);
-    draw_bars_key(descriptor);
-    draw_badges_key(descriptor);
-    draw_signs_key(descriptor);
+    draw_timer(descriptor, found.bounds, place.joined);
+    draw_key(descriptor);
     if found.broken {
         draw_fault(descriptor, log, place, found.fault);
     }
@@ -52,23 +40,22 @@ pub(crate) fn draw_head(descriptor: i32, log: &[u8], name: &[u8], found: Survey,
 // Why the entry behind a place can't be read, in the words of `heidezirkel show`.
 fn draw_fault(descriptor: i32, log: &[u8], place: Place, fault: usize) {
     let number = std::num::wrapping_add_usize(place.number, 1);
-    begin_text(descriptor, b"t", MARGIN, 148);
-    write_text(descriptor, b"The log breaks off: ");
+    write_text(
+        descriptor,
+        b"<text class=\"t\" x=\"28\" y=\"148\">The log breaks off: ",
+    );
     write_fault(descriptor, log, number, place.at, fault);
     end_text(descriptor);
 }
 
 // A quarter of a millimetre is a unit, so that the picture fills the width of an A4 page on its side.
 fn begin_picture(descriptor: i32, height: u64) {
-    write_text(
+    write_form(
         descriptor,
         b"<?xml version=\"1.0\" encoding=\"UTF-8\"?>\n\
-          <svg xmlns=\"http://www.w3.org/2000/svg\" width=\"297mm\" height=\"",
+          <svg xmlns=\"http://www.w3.org/2000/svg\" width=\"297mm\" height=\"#mm\" viewBox=\"0 0 1188 #\">\n",
+        &[height / 4, height],
     );
-    write_long(descriptor, height / 4);
-    write_text(descriptor, b"mm\" viewBox=\"0 0 1188 ");
-    write_long(descriptor, height);
-    write_text(descriptor, b"\">\n");
 }
 
 // Greys and patterns, no colours: the picture says the same when it is printed in black and white.
@@ -92,16 +79,13 @@ fn write_style(descriptor: i32) {
     );
 }
 
-fn draw_ground(descriptor: i32, height: u64) {
-    rectangle(descriptor, b"strip", 0, 0, 1188, height);
-}
-
 fn draw_name(descriptor: i32, name: &[u8]) {
     write_text(descriptor, b"<title>heidezirkel timeline: ");
     write_escaped(descriptor, name);
-    write_text(descriptor, b"</title>\n");
-    begin_text(descriptor, b"h", MARGIN, 40);
-    write_text(descriptor, b"What the radio says it did: ");
+    write_text(
+        descriptor,
+        b"</title>\n<text class=\"h\" x=\"28\" y=\"40\">What the radio says it did: ",
+    );
     write_escaped(descriptor, name);
     end_text(descriptor);
 }
@@ -110,95 +94,88 @@ fn draw_summary(descriptor: i32, time: u64, extent: Extent) {
     begin_text(descriptor, b"a", MARGIN, 60);
     write_count(descriptor, extent.total, b" entry in ", b" entries in ");
     write_clock(descriptor, time);
-    write_text(descriptor, b" from the log's start");
-    if extent.drawn < extent.total {
-        write_text(descriptor, b", of which the first ");
-        write_long(descriptor, extent.drawn as u64);
-        write_text(descriptor, b" are drawn");
-    }
+    write_drawn(descriptor, extent);
     write_text(
         descriptor,
-        b". The picture shows what the log claims and judges nothing: heidezirkel judge does.",
+        b". The picture shows what the log claims and judges nothing: heidezirkel judge does.</text>\n",
     );
-    end_text(descriptor);
+}
+
+fn write_drawn(descriptor: i32, extent: Extent) {
+    if extent.drawn < extent.total {
+        write_form(
+            descriptor,
+            b" from the log's start, of which the first # are drawn",
+            &[extent.drawn as u64],
+        );
+        return;
+    }
+    write_text(descriptor, b" from the log's start");
 }
 
 // What the times say of the joining timer.
-fn write_timer(descriptor: i32, bounds: Bounds, joined: bool) {
+fn draw_timer(descriptor: i32, bounds: Bounds, joined: bool) {
     if !joined {
-        write_text(
+        write_between(
             descriptor,
-            b"Joining timer: no join was taken, so the log says nothing of it (",
+            b"<text class=\"t\" x=\"28\" y=\"78\">Joining timer: no join was taken, so the log says nothing of it (",
+            bounds,
+            b").</text>\n",
         );
-        write_bounds(descriptor, bounds.least, bounds.greatest);
-        write_text(descriptor, b").");
         return;
     }
     if 0 < bounds.conflict {
-        write_conflict(descriptor, bounds);
+        draw_conflict(descriptor, bounds);
         return;
     }
-    write_text(descriptor, b"Joining timer: by these times it is ");
-    write_bounds(descriptor, bounds.least, bounds.greatest);
-    write_text(descriptor, b".");
+    write_between(
+        descriptor,
+        b"<text class=\"t\" x=\"28\" y=\"78\">Joining timer: by these times it is ",
+        bounds,
+        b".</text>\n",
+    );
 }
 
-fn write_conflict(descriptor: i32, bounds: Bounds) {
+fn write_between(descriptor: i32, before: &[u8], bounds: Bounds, behind: &[u8]) {
+    write_text(descriptor, before);
+    write_bounds(descriptor, bounds.least, bounds.greatest);
+    write_text(descriptor, behind);
+}
+
+fn draw_conflict(descriptor: i32, bounds: Bounds) {
+    write_form(
+        descriptor,
+        b"<text class=\"t\" x=\"28\" y=\"78\">Joining timer: no one timer fits these times. At entry # it has run # ms, and what came before",
+        &[bounds.conflict as u64, bounds.elapsed],
+    );
+    write_between(descriptor, b" leaves ", bounds, b" (drawn).</text>\n");
+}
+
+// What the bars, the badges and the signs mean: always the same, so it stands here as it is written.
+fn draw_key(descriptor: i32) {
     write_text(
         descriptor,
-        b"Joining timer: no one timer fits these times. At entry ",
+        b"<rect class=\"idle\" x=\"28\" y=\"92\" width=\"28\" height=\"12\"/>\n\
+          <text class=\"s\" x=\"62\" y=\"102\">no call</text>\n\
+          <rect class=\"way\" x=\"120\" y=\"92\" width=\"28\" height=\"12\"/>\n\
+          <text class=\"s\" x=\"154\" y=\"102\">a call comes or goes</text>\n\
+          <rect class=\"on\" x=\"272\" y=\"92\" width=\"28\" height=\"12\"/>\n\
+          <text class=\"s\" x=\"306\" y=\"102\">a call is on</text>\n\
+          <rect class=\"open\" x=\"386\" y=\"92\" width=\"15\" height=\"12\"/>\n\
+          <text class=\"s\" x=\"407\" y=\"102\">the log says no more</text>\n\
+          <rect class=\"window\" x=\"530\" y=\"92\" width=\"28\" height=\"12\"/>\n\
+          <text class=\"s\" x=\"564\" y=\"102\">within this time the joining timer ends, or would end</text>\n\
+          <rect class=\"taken\" x=\"28\" y=\"112\" width=\"28\" height=\"14\" rx=\"7\"/>\n\
+          <text class=\"s\" x=\"62\" y=\"123\">an entry, taken</text>\n\
+          <rect class=\"told\" x=\"160\" y=\"112\" width=\"28\" height=\"14\"/>\n\
+          <text class=\"s\" x=\"194\" y=\"123\">a message reported to the network</text>\n\
+          <rect class=\"hollow\" x=\"380\" y=\"112\" width=\"28\" height=\"14\" rx=\"7\"/>\n\
+          <text class=\"s\" x=\"414\" y=\"123\">refused: ignored, or no step in this state</text>\n\
+          <path class=\"taken\" d=\"M652 123l-5 -8h10z\"/>\n\
+          <text class=\"s\" x=\"664\" y=\"123\">message received</text>\n\
+          <path class=\"hollow\" d=\"M776 115l-5 8h10z\"/>\n\
+          <text class=\"s\" x=\"788\" y=\"123\">message sent</text>\n\
+          <path class=\"cross\" d=\"M878 115l8 8m0 -8l-8 8\"/>\n\
+          <text class=\"s\" x=\"892\" y=\"123\">a timer ran out</text>\n",
     );
-    write_long(descriptor, bounds.conflict as u64);
-    write_text(descriptor, b" it has run ");
-    write_long(descriptor, bounds.elapsed);
-    write_text(descriptor, b" ms, and what came before leaves ");
-    write_bounds(descriptor, bounds.least, bounds.greatest);
-    write_text(descriptor, b" (drawn).");
-}
-
-// ---- the key
-
-fn draw_bars_key(descriptor: i32) {
-    rectangle(descriptor, b"idle", 28, 92, 28, 12);
-    label(descriptor, b"s", 62, 102, b"no call");
-    rectangle(descriptor, b"way", 120, 92, 28, 12);
-    label(descriptor, b"s", 154, 102, b"a call comes or goes");
-    rectangle(descriptor, b"on", 272, 92, 28, 12);
-    label(descriptor, b"s", 306, 102, b"a call is on");
-    rectangle(descriptor, b"open", 386, 92, 15, 12);
-    label(descriptor, b"s", 407, 102, b"the log says no more");
-    rectangle(descriptor, b"window", 530, 92, 28, 12);
-    label(
-        descriptor,
-        b"s",
-        564,
-        102,
-        b"within this time the joining timer ends, or would end",
-    );
-}
-
-fn draw_badges_key(descriptor: i32) {
-    draw_badge_key(descriptor, 0, 28, b"an entry, taken");
-    draw_badge_key(descriptor, 2, 160, b"a message reported to the network");
-    draw_badge_key(
-        descriptor,
-        1,
-        380,
-        b"refused: ignored, or no step in this state",
-    );
-}
-
-fn draw_badge_key(descriptor: i32, answer: u8, x: u64, words: &[u8]) {
-    begin_badge(descriptor, answer, x, 112);
-    finish(descriptor);
-    label(descriptor, b"s", sum(x, 34), 123, words);
-}
-
-fn draw_signs_key(descriptor: i32) {
-    draw_received(descriptor, 652, 95);
-    label(descriptor, b"s", 664, 123, b"message received");
-    draw_sent(descriptor, 776, 95);
-    label(descriptor, b"s", 788, 123, b"message sent");
-    draw_expiry(descriptor, 878, 95);
-    label(descriptor, b"s", 892, 123, b"a timer ran out");
 }

@@ -12,6 +12,7 @@ mod survey;
 use band::Extent;
 use band::draw_bands;
 use band::measure;
+use drawing::write_form;
 use filing::close_file;
 use filing::create_file;
 use head::draw_head;
@@ -29,9 +30,10 @@ use saying::write_count;
 use survey::Survey;
 use survey::survey_log;
 use survey::view_of;
+use version::Table;
 
 // The most bytes that a log has.
-const MOST: usize = 65536;
+const MOST: usize = version::LONGEST;
 
 // Draws a log, the file `name`, into the new file `path`, and answers the verdict.
 pub fn tell_timeline(log: &[u8], name: &[u8], path: &[u8]) -> u8 {
@@ -40,8 +42,8 @@ pub fn tell_timeline(log: &[u8], name: &[u8], path: &[u8]) -> u8 {
         return 1;
     }
     match read_number(log, 0) {
-        Number::Value(version, at) => {
-            if version == 1 {
+        Number::Value(number, at) => {
+            if number == version::number(Table::First) {
                 return draw_log(log, at, name, path);
             }
             refuse_version(log)
@@ -108,11 +110,18 @@ fn tell_drawn(path: &[u8], drawn: Extent) {
         b" entry drawn",
         b" entries drawn",
     );
+    tell_rest(drawn);
+}
+
+fn tell_rest(drawn: Extent) {
     if drawn.drawn < drawn.total {
         let rest = std::num::wrapping_sub_usize(drawn.total, drawn.drawn);
-        tell(b", and ");
-        write_count(STDOUT_FILENO, rest, b" not", b" not");
-        tell(b": the picture would grow too long");
+        write_form(
+            STDOUT_FILENO,
+            b", and # not: the picture would grow too long\n",
+            &[rest as u64],
+        );
+        return;
     }
     tell(b"\n");
 }

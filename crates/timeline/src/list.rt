@@ -1,15 +1,12 @@
 // The numbered list below a band: a line an entry, in words.
 use crate::mark::draw_number;
-use crate::place::MARGIN;
 use crate::place::Place;
-use crate::place::RIGHT;
 use crate::place::View;
 use crate::place::less;
 use crate::place::sum;
 use drawing::begin_text;
 use drawing::end_text;
-use drawing::label;
-use drawing::line;
+use drawing::write_form;
 use fields::fault_number;
 use fields::octet_at;
 use log::Claim;
@@ -33,7 +30,7 @@ const FIRST: u64 = 265;
 
 const LINE: u64 = 16;
 
-// Where the columns start.
+// Where the columns start, as their names do.
 const TIME: u64 = 64;
 
 const EVENT: u64 = 152;
@@ -58,22 +55,21 @@ pub(crate) fn first_line(y: u64) -> u64 {
     sum(y, FIRST)
 }
 
+// The columns' names, each above its column, and a rule below them.
 pub(crate) fn draw_list_head(descriptor: i32, y: u64) {
     let base = sum(y, HEAD);
-    label(descriptor, b"t", MARGIN, base, b"no.");
-    label(descriptor, b"t", TIME, base, b"time");
-    label(descriptor, b"t", EVENT, base, b"what happened");
-    label(descriptor, b"t", ANSWER, base, b"answer");
-    label(descriptor, b"t", STATE, base, b"state");
-    label(descriptor, b"t", SENT, base, b"message sent");
-    label(descriptor, b"t", ASKED, base, b"asked of the other layers");
-    line(
+    let rule = sum(base, 4);
+    write_form(
         descriptor,
-        b"grid",
-        MARGIN,
-        sum(base, 4),
-        RIGHT,
-        sum(base, 4),
+        b"<text class=\"t\" x=\"28\" y=\"#\">no.</text>\n\
+          <text class=\"t\" x=\"64\" y=\"#\">time</text>\n\
+          <text class=\"t\" x=\"152\" y=\"#\">what happened</text>\n\
+          <text class=\"t\" x=\"392\" y=\"#\">answer</text>\n\
+          <text class=\"t\" x=\"452\" y=\"#\">state</text>\n\
+          <text class=\"t\" x=\"522\" y=\"#\">message sent</text>\n\
+          <text class=\"t\" x=\"672\" y=\"#\">asked of the other layers</text>\n\
+          <line class=\"grid\" x1=\"28\" y1=\"#\" x2=\"1160\" y2=\"#\"/>\n",
+        &[base, base, base, base, base, base, base, rule, rule],
     );
 }
 

@@ -10,10 +10,11 @@ use drawing::finish;
 use drawing::line;
 use drawing::number;
 use drawing::shape;
+use drawing::write_form;
 use log::Entry;
 
 // Filled: taken. Grey and square: reported to the network. Hollow: refused.
-pub(crate) fn begin_badge(descriptor: i32, answer: u8, x: u64, y: u64) {
+fn begin_badge(descriptor: i32, answer: u8, x: u64, y: u64) {
     match answer {
         0 => begin_rectangle(descriptor, b"taken", x, y, 28, 14),
         2 => begin_rectangle(descriptor, b"told", x, y, 28, 14),
@@ -41,9 +42,11 @@ fn round(descriptor: i32, answer: u8, radius: u64) {
 // A badge with an entry's number; its middle is `x` and its top `y`.
 pub(crate) fn draw_number(descriptor: i32, answer: u8, x: u64, y: u64, entry: usize, time: u64) {
     begin_badge(descriptor, answer, less(x, 14), y);
-    attribute(descriptor, b" data-entry=\"", entry as u64);
-    attribute(descriptor, b" data-time=\"", time);
-    finish(descriptor);
+    write_form(
+        descriptor,
+        b" data-entry=\"#\" data-time=\"#\"/>\n",
+        &[entry as u64, time],
+    );
     if answer == 0 {
         number(descriptor, b"n w", x, sum(y, 11), entry as u64);
         return;
@@ -87,15 +90,15 @@ fn draw_signs(descriptor: i32, y: u64, x: u64, event: u8, sent: bool) {
     }
 }
 
-pub(crate) fn draw_received(descriptor: i32, x: u64, y: u64) {
+fn draw_received(descriptor: i32, x: u64, y: u64) {
     shape(descriptor, b"taken", x, sum(y, 28), b"l-5 -8h10z");
 }
 
-pub(crate) fn draw_sent(descriptor: i32, x: u64, y: u64) {
+fn draw_sent(descriptor: i32, x: u64, y: u64) {
     shape(descriptor, b"hollow", x, sum(y, 20), b"l-5 8h10z");
 }
 
-pub(crate) fn draw_expiry(descriptor: i32, x: u64, y: u64) {
+fn draw_expiry(descriptor: i32, x: u64, y: u64) {
     shape(descriptor, b"cross", x, sum(y, 20), b"l8 8m0 -8l-8 8");
 }
 

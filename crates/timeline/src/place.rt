@@ -2,6 +2,8 @@
 use log::Entry;
 use log::Found;
 use log::read_entry;
+use timer::Timers;
+use version::Table;
 
 // The picture is 297 mm wide, 4 units a millimetre. Time runs from LEFT to RIGHT, and its marks stay LEAD away from both.
 pub(crate) const MARGIN: u64 = 28;
@@ -21,9 +23,6 @@ const LONGEST: u64 = 60000;
 const START: u64 = 5000;
 
 pub(crate) const STRIP: u64 = 56;
-
-// The longest joining timer.
-pub(crate) const MOST_JOINING: u64 = 30000;
 
 // How the picture is drawn: units a second, milliseconds from one mark of the time axis to the next, and the joining timer's bounds.
 pub(crate) struct View {
@@ -141,7 +140,10 @@ pub(crate) fn joining_left(place: Place) -> u64 {
     if !place.joined {
         return 0;
     }
-    less(sum(place.start, MOST_JOINING), place.time)
+    less(
+        sum(place.start, Timers::JOINING_GREATEST as u64),
+        place.time,
+    )
 }
 
 fn strip_of(delta: u64) -> u64 {
@@ -195,7 +197,7 @@ pub(crate) fn onward(view: View, place: Place, entry: Entry, at: usize) -> Place
 
 // The place behind the next entry. Where there is none to be read, the walk stays, and counts on so that it ends.
 pub(crate) fn next_place(log: &[u8], view: View, place: Place) -> Place {
-    let Found::Read(entry, at) = read_entry(log, place.at) else {
+    let Found::Read(entry, at) = read_entry(Table::First, log, place.at) else {
         return Place {
             at: place.at,
             number: std::num::wrapping_add_usize(place.number, 1),

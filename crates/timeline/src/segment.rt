@@ -22,9 +22,9 @@ use drawing::finish;
 use drawing::line;
 use drawing::rectangle;
 use drawing::shape;
+use drawing::write_form;
 use log_words::entry::write_clock;
 use log_words::entry::write_seconds;
-use saying::write_long;
 use saying::write_text;
 
 // ---- the bar
@@ -45,10 +45,11 @@ fn draw_bar(descriptor: i32, y: u64, before: Place, after: Place) {
     let width = greater(2, less(after.x / 1000, x));
     let top = sum(lane(y, before.state), 3);
     shade(descriptor, before.state, x, top, width);
-    attribute(descriptor, b" data-state=\"", before.state as u64);
-    attribute(descriptor, b" data-from=\"", before.time);
-    attribute(descriptor, b" data-to=\"", after.time);
-    finish(descriptor);
+    write_form(
+        descriptor,
+        b" data-state=\"#\" data-from=\"#\" data-to=\"#\"/>\n",
+        &[before.state as u64, before.time, after.time],
+    );
 }
 
 // ---- the time axis
@@ -108,17 +109,29 @@ fn draw_window(descriptor: i32, view: View, y: u64, place: Place, time: u64, roo
     if !is_within(place, from, to, end) {
         return;
     }
-    let first = greater(from, place.time);
-    let last = smaller(to, end);
-    let x = sum(place.x, along(view.scale, less(first, place.time))) / 1000;
-    let width = greater(3, along(view.scale, less(last, first)) / 1000);
-    begin_rectangle(descriptor, b"window", x, sum(lane(y, 5), 2), width, 14);
-    attribute(descriptor, b" data-from=\"", first);
-    attribute(descriptor, b" data-to=\"", last);
-    finish(descriptor);
+    let behind = draw_hatched(
+        descriptor,
+        view.scale,
+        y,
+        place,
+        greater(from, place.time),
+        smaller(to, end),
+    );
     if to <= end {
-        draw_bounds(descriptor, view, y, sum(sum(x, width), 4), room);
+        draw_bounds(descriptor, view, y, sum(behind, 4), room);
     }
+}
+
+// The window from a time to a time; answers where it ends along the axis.
+fn draw_hatched(descriptor: i32, scale: u64, y: u64, place: Place, first: u64, last: u64) -> u64 {
+    let x = sum(place.x, along(scale, less(first, place.time))) / 1000;
+    let width = greater(3, along(scale, less(last, first)) / 1000);
+    write_form(
+        descriptor,
+        b"<rect class=\"window\" x=\"#\" y=\"#\" width=\"#\" height=\"14\" data-from=\"#\" data-to=\"#\"/>\n",
+        &[x, sum(lane(y, 5), 2), width, first, last],
+    );
+    sum(x, width)
 }
 
 // A window of one instant belongs to the time that ends there.
@@ -138,12 +151,11 @@ fn draw_bounds(descriptor: i32, view: View, y: u64, x: u64, room: u64) {
 }
 
 pub(crate) fn write_bounds(descriptor: i32, least: u64, greatest: u64) {
-    write_long(descriptor, least);
     if least < greatest {
-        write_text(descriptor, b" to ");
-        write_long(descriptor, greatest);
+        write_form(descriptor, b"# to # ms", &[least, greatest]);
+        return;
     }
-    write_text(descriptor, b" ms");
+    write_form(descriptor, b"# ms", &[least]);
 }
 
 // ---- a long time without an entry

@@ -1,7 +1,6 @@
 // The first pass over a log: how many entries can be read, which joining timers their times leave, and how wide the picture would be.
 use crate::place::LEAD;
 use crate::place::LEFT;
-use crate::place::MOST_JOINING;
 use crate::place::Place;
 use crate::place::RIGHT;
 use crate::place::STRIP;
@@ -18,9 +17,8 @@ use crate::place::sum;
 use log::Entry;
 use log::Found;
 use log::read_entry;
-
-// The shortest joining timer.
-const LEAST_JOINING: u64 = 10000;
+use timer::Timers;
+use version::Table;
 
 // The timers that the times leave. `conflict` is the first entry, if any, at which none is left: the timer has run for `elapsed` there,
 // and the bounds are those of the entries before.
@@ -48,8 +46,8 @@ pub(crate) fn survey_log(log: &[u8], at: usize) -> Survey {
     let mut found = Survey {
         place: first_place(at),
         bounds: Bounds {
-            least: LEAST_JOINING,
-            greatest: MOST_JOINING,
+            least: Timers::JOINING_LEAST as u64,
+            greatest: Timers::JOINING_GREATEST as u64,
             conflict: 0,
             elapsed: 0,
         },
@@ -77,7 +75,7 @@ fn is_over(log: &[u8], found: Survey) -> bool {
 fn survey_next(log: &[u8], found: Survey) -> Survey {
     let place = found.place;
     let bounds = found.bounds;
-    match read_entry(log, place.at) {
+    match read_entry(Table::First, log, place.at) {
         Found::Unreadable(fault) => Survey {
             place,
             bounds,

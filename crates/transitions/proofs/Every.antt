@@ -1,41 +1,47 @@
--- What a test finds of every row of the step table holds of whatever the table decides.
+-- What a test finds of every row of a table holds of whatever the table decides.
 use Prim.Native.Nat.{ℕ}
 use mathlib.Core.Path.{_≡_, refl, sym, subst}
 use mathlib.Core.List.{List, [], _∷_, _++_}
-use mathlib.Core.Bool.{Bool, true, false, cond, _&&_}
+use mathlib.Core.Bool.{Bool, true, false, not, _&&_, _||_}
 use lib.Dec.{eqb}
 use borrow.Author.Tests.{eqb-true}
 use Rattle.octets.specs.Rows.{rows}
 use Rattle.octets.proofs.Choice.{at-cond}
 use Rattle.codes.specs.declared.state.State.{State}
 use Rattle.codes.specs.declared.state.State.the-variants.{U0}
+use Rattle.timer.specs.declared.Timers.{Timers}
+use Rattle.timer.specs.Timers.{isOn}
 use Rattle.context.specs.declared.Context.{Context}
 use Rattle.context.specs.States.{same}
-use Rattle.context.proofs.Whole.{and-left, and-right}
-use Rattle.transitions.specs.declared.Timer.{Timer}
-use Rattle.transitions.specs.declared.Send.{Send}
+use Rattle.context.proofs.States.{same-state}
+use Rattle.context.proofs.Whole.{and-left, and-right, if-so, ofTimers, at-timers}
+use Rattle.transitions.specs.declared.Taken.{Taken}
 use Rattle.transitions.specs.declared.Decision.{Decision}
 use Rattle.transitions.specs.declared.Decision.the-variants.{Take, NoStep, Ignore, Report, TellStatus, SetParameters}
 use Rattle.transitions.specs.Table.{
   Occasion,
   event,
   message,
+  Asked,
+  nothing,
+  ORIG,
+  running,
   Place,
+  Next,
+  Actions,
+  Effect,
   Row,
   row,
-  stepTable,
-  sentBy,
-  stoppedBy,
-  setBy,
+  met,
+  taken,
   inPlace,
   eventsIn,
   messagesIn,
-  sentences,
-  incompatible,
   typesIn,
   heardIn,
-  numbersIn,
+  happenedIn,
   decidedIn,
+  decidedBy,
 }
 
 -- A row's event number.
@@ -43,20 +49,26 @@ abbrev pub numberIn : Occasion → ℕ
 numberIn (event n) = n
 numberIn (message code) = 18
 
--- A test of a row: its event number, next state, actions, what is sent, which timer is stopped, which is set.
+-- A test of a row where it holds: its event number, the state, the timers that run there, and what is taken.
 abbrev pub Test : Type 0
-Test = ℕ → State → ℕ → Send → Timer → Timer → Bool
+Test = ℕ → State → Timers → Taken → Bool
 
--- The test where a row holds in the state.
-abbrev placeTest : State → List Place → Bool → Bool
-placeTest s [] t = true
-placeTest s (p ∷ ps) t = cond (same s (p .0)) t (placeTest s ps t)
+-- What is asked may be so where these timers run.
+abbrev pub possible : Asked → Timers → Bool
+possible nothing t = true
+possible ORIG t = true
+possible (running k) t = isOn k t
 
--- The test of every row that holds in the state; a row's actions are those in the context.
-abbrev pub inTable : Test → State → Context → List Row → Bool
-inTable test s x [] = true
-inTable test s x (row places occasion next actions effects ∷ more) =
-    placeTest s places (test (numberIn occasion) next (actions s x) (sentBy effects) (stoppedBy effects) (setBy effects)) && inTable test s x more
+-- The test at each of a row's places, whichever timers run.
+abbrev atPlaces : Test → List Place → ℕ → Next → Actions → List Effect → Bool
+atPlaces test [] n next actions effects = true
+atPlaces test (p ∷ ps) n next actions effects =
+    ofTimers (λ t. not (possible (p .1) t) || test n (p .0) t (taken (p .0) t next actions effects)) && atPlaces test ps n next actions effects
+
+-- Every row passes the test.
+abbrev pub passes : Test → List Row → Bool
+passes test [] = true
+passes test (row places occasion next actions effects ∷ more) = atPlaces test places (numberIn occasion) next actions effects && passes test more
 
 -- Every row of a list.
 abbrev All : (ℕ → Decision → Type 0) → List (ℕ × Decision) → Type 0
@@ -72,54 +84,61 @@ both : (P : ℕ → Decision → Type 0) (rs qs : List (ℕ × Decision)) → Al
 both P [] qs p q = q
 both P (r ∷ rs) qs p q = (p .0, both P rs qs (p .1) q)
 
--- The section is over the test, what it is to show of a decision, and what holds of the decisions that are no row.
-module _ (test : Test) (P : ℕ → Decision → Type 0) (s : State) (x : Context)
-    (takes : (n : ℕ) (next : State) (actions : ℕ) (sends : Send) (stops sets : Timer) → test n next actions sends stops sets ≡ true → P n (Take next actions sends stops sets))
-    (none : (n : ℕ) → P n NoStep) where
-  placed : (n : ℕ) (places : List Place) (next : State) (actions : ℕ) (sends : Send) (stops sets : Timer) (Q : List (ℕ × Decision) → Type 0)
-      (here : Decision → List (ℕ × Decision)) (more : List (ℕ × Decision)) → placeTest s places (test n next actions sends stops sets) ≡ true
-      → ((d : Decision) → P n d → Q (here d)) → Q more → Q (inPlace s x places (Take next actions sends stops sets) here more)
-  placed n [] next actions sends stops sets Q here more e yes-way no-way = no-way
-  placed n (p ∷ ps) next actions sends stops sets Q here more e yes-way no-way =
-      go (same s (p .0)) e (placed n ps next actions sends stops sets Q here more)
-    where
-      go : (t : Bool) → cond t (test n next actions sends stops sets) (placeTest s ps (test n next actions sends stops sets)) ≡ true
-          → (placeTest s ps (test n next actions sends stops sets) ≡ true → ((d : Decision) → P n d → Q (here d)) → Q more
-          → Q (inPlace s x ps (Take next actions sends stops sets) here more))
-          → Q (cond t (here (cond ((p .1) x) (Take next actions sends stops sets) NoStep)) (inPlace s x ps (Take next actions sends stops sets) here more))
-      go true f rest =
-          yes-way _
-          (at-cond (P n) ((p .1) x) (Take next actions sends stops sets) NoStep (λ q. takes n next actions sends stops sets f) (λ q. none n))
-      go false f rest = rest f yes-way no-way
+met-possible : (a : Asked) (x : Context) → met a x ≡ true → possible a (x .timers) ≡ true
+met-possible nothing x m = refl
+met-possible ORIG x m = refl
+met-possible (running k) x m = m
 
-  events-hold : (table : List Row) → inTable test s x table ≡ true → All P (eventsIn s x table)
+-- The section is over the test, what it is to show of a decision, and what holds of the decisions that are no row.
+module _ (test : Test) (P : ℕ → Decision → Type 0) (x : Context) (takes : (n : ℕ) (d : Taken) → test n (x .state) (x .timers) d ≡ true → P n (Take d))
+    (none : (n : ℕ) → P n NoStep) (reports : (cause : ℕ) → P 18 (Report cause)) where
+  -- The test of a place, in the context's state and where its timers run.
+  tested : (n : ℕ) (p : Place) (next : Next) (actions : Actions) (effects : List Effect)
+      → ofTimers (λ t. not (possible (p .1) t) || test n (p .0) t (taken (p .0) t next actions effects)) ≡ true → same (x .state) (p .0) ≡ true
+      → met (p .1) x ≡ true → test n (x .state) (x .timers) (taken (x .state) (x .timers) next actions effects) ≡ true
+  tested n p next actions effects e s m =
+      subst (λ s. test n s (x .timers) (taken s (x .timers) next actions effects) ≡ true) (sym (same-state (x .state) (p .0) s))
+      (if-so (possible (p .1) (x .timers)) _
+      (at-timers (λ t. not (possible (p .1) t) || test n (p .0) t (taken (p .0) t next actions effects)) e (x .timers)) (met-possible (p .1) x m))
+
+  placed : (n : ℕ) (places : List Place) (next : Next) (actions : Actions) (effects : List Effect) (unmet : Decision) (Q : List (ℕ × Decision) → Type 0)
+      (here : Decision → List (ℕ × Decision)) (more : List (ℕ × Decision)) → atPlaces test places n next actions effects ≡ true → P n unmet
+      → ((d : Decision) → P n d → Q (here d)) → Q more
+      → Q (inPlace (x .state) x places (Take (taken (x .state) (x .timers) next actions effects)) unmet here more)
+  placed n [] next actions effects unmet Q here more e u yes-way no-way = no-way
+  placed n (p ∷ ps) next actions effects unmet Q here more e u yes-way no-way =
+      let first = ofTimers (λ t. not (possible (p .1) t) || test n (p .0) t (taken (p .0) t next actions effects)) in
+      at-cond Q (same (x .state) (p .0)) _ _
+      (λ s. yes-way _
+      (at-cond (P n) (met (p .1) x) _ _ (λ m. takes n _ (tested n p next actions effects (and-left first _ e) s m)) (λ m. u)))
+      (λ s. placed n ps next actions effects unmet Q here more (and-right first _ e) u yes-way no-way)
+
+  events-hold : (table : List Row) → passes test table ≡ true → All P (eventsIn (x .state) x table)
   events-hold [] e = tt
   events-hold (row places (event n) next actions effects ∷ more) e =
-      let rest = events-hold more (and-right (placeTest s places (test n next (actions s x) (sentBy effects) (stoppedBy effects) (setBy effects))) _ e) in
-      placed n places next (actions s x) (sentBy effects) (stoppedBy effects) (setBy effects) (All P) (λ d. (n, d) ∷ eventsIn s x more) (eventsIn s x more)
-      (and-left (placeTest s places (test n next (actions s x) (sentBy effects) (stoppedBy effects) (setBy effects))) _ e) (λ d p. (p, rest)) rest
+      let rest = events-hold more (and-right (atPlaces test places n next actions effects) _ e) in
+      placed n places next actions effects NoStep (All P) (λ d. (n, d) ∷ eventsIn (x .state) x more) (eventsIn (x .state) x more)
+      (and-left (atPlaces test places n next actions effects) _ e) (none n) (λ d p. (p, rest)) rest
   events-hold (row places (message code) next actions effects ∷ more) e =
-      events-hold more (and-right (placeTest s places (test 18 next (actions s x) (sentBy effects) (stoppedBy effects) (setBy effects))) _ e)
+      events-hold more (and-right (atPlaces test places 18 next actions effects) _ e)
 
-  messages-hold : (table : List Row) → inTable test s x table ≡ true → All (λ code d. P 18 d) (messagesIn s x table)
+  messages-hold : (table : List Row) → passes test table ≡ true → All (λ code d. P 18 d) (messagesIn (x .state) x table)
   messages-hold [] e = tt
-  messages-hold (row places (event n) next actions effects ∷ more) e =
-      messages-hold more (and-right (placeTest s places (test n next (actions s x) (sentBy effects) (stoppedBy effects) (setBy effects))) _ e)
+  messages-hold (row places (event n) next actions effects ∷ more) e = messages-hold more (and-right (atPlaces test places n next actions effects) _ e)
   messages-hold (row places (message code) next actions effects ∷ more) e =
-      let rest = messages-hold more (and-right (placeTest s places (test 18 next (actions s x) (sentBy effects) (stoppedBy effects) (setBy effects))) _ e) in
-      placed 18 places next (actions s x) (sentBy effects) (stoppedBy effects) (setBy effects) (All (λ k d. P 18 d)) (λ d. (code, d) ∷ messagesIn s x more) (messagesIn s x more)
-      (and-left (placeTest s places (test 18 next (actions s x) (sentBy effects) (stoppedBy effects) (setBy effects))) _ e) (λ d p. (p, rest)) rest
+      let rest = messages-hold more (and-right (atPlaces test places 18 next actions effects) _ e) in
+      placed 18 places next actions effects (Report 98) (All (λ k d. P 18 d)) (λ d. (code, d) ∷ messagesIn (x .state) x more) (messagesIn (x .state) x more)
+      (and-left (atPlaces test places 18 next actions effects) _ e) (reports 98) (λ d p. (p, rest)) rest
 
-  -- Whatever the table decides, where every row passes the test.
-  pub decided-holds : inTable test s x stepTable ≡ true → P 18 Ignore → ((cause : ℕ) → P 18 (Report cause)) → P 18 TellStatus
-      → (same s U0 ≡ false → P 18 SetParameters) → (n code : ℕ) → P n (decidedIn s x n code)
-  unfolding decidedIn heardIn
-  decided-holds e ignores reports tells sets n code =
-      every P n NoStep (numbersIn s x code) (none n)
-      (both P (eventsIn s x stepTable) _ (events-hold stepTable e) (
-        at-cond (P 18) (same s U0) Ignore (rows code (Report 97) (typesIn s x)) (λ q. ignores)
-            (λ q. every (λ k d. P 18 d) code (Report 97) (typesIn s x) (reports 97)
-            (both (λ k d. P 18 d) (messagesIn s x stepTable) _ (messages-hold stepTable e)
-            (tells, (sets q, (reports 98, (reports 98, (reports 98, (reports 98, (reports 98, (reports 98, (reports 98, (reports 98, (reports 98, tt))))))))))))),
-        tt,
-      ))
+  -- Whatever a table decides, where every row passes the test.
+  pub decided-holds : (table : List Row) → passes test table ≡ true → P 18 Ignore → P 18 TellStatus → (same (x .state) U0 ≡ false → P 18 SetParameters)
+      → (n code : ℕ) → P n (decidedBy table x n code)
+  unfolding decidedBy decidedIn heardIn happenedIn
+  decided-holds table e ignores tells sets n code =
+      at-cond (P n) (eqb n 18) _ _
+      (λ k. subst (λ m. P m (heardIn table (x .state) x code)) (sym (eqb-true n 18 k))
+      (at-cond (P 18) (same (x .state) U0) Ignore _ (λ q. ignores)
+      (λ q. every (λ k d. P 18 d) code (Report 97) (typesIn table (x .state) x) (reports 97)
+      (both (λ k d. P 18 d) (messagesIn (x .state) x table) _ (messages-hold table e)
+      (tells, (sets q, (reports 98, (reports 98, (reports 98, (reports 98, (reports 98, (reports 98, (reports 98, (reports 98, (reports 98, tt)))))))))))))))
+      (λ k. every P n NoStep (eventsIn (x .state) x table) (none n) (events-hold table e))

@@ -1,4 +1,6 @@
-pub mod InState
 pub mod Every
-pub mod Actions
-pub mod Coincide
+pub mod Types
+pub mod Sound
+pub mod Effects
+pub mod Decided
+pub mod InState

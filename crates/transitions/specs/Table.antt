@@ -1,7 +1,8 @@
--- Document 01, "Events and steps": the step table, row by row, and what it says of an event in a context.
+-- Document 01, "Events and steps": the step table, row by row, and what a table of rows says of an event in a context.
 use Prim.Native.Nat.{ℕ, _+_}
 use mathlib.Core.List.{List, [], _∷_, _++_}
 use mathlib.Core.Bool.{Bool, true, false, cond, _&&_}
+use lib.Dec.{eqb}
 use Rattle.octets.specs.Rows.{rows}
 use Rattle.codes.specs.declared.state.State.{State}
 use Rattle.codes.specs.declared.state.State.the-variants.{U0, U0p, U1, U2, U3, U4, U5, U6}
@@ -16,61 +17,62 @@ use Rattle.codes.specs.MessageTypes.{
   GET-STATUS,
   SET-PARAMETER,
 }
+use Rattle.timer.specs.declared.Timers.{Timers}
 use Rattle.context.specs.declared.Context.{Context}
 use Rattle.context.specs.States.{same}
-use Rattle.transitions.specs.declared.Timer.{Timer}
-use Rattle.transitions.specs.declared.Timer.the-variants.{NoTimer, MmEst, Term, ConnReq, NoChannel}
+use Rattle.timer.specs.declared.Timer.{Timer}
+use Rattle.timer.specs.declared.Timer.the-variants.{NoTimer, MmEst, Term, ConnReq, NoChannel}
+use Rattle.timer.specs.Timers.{timerNumber, isOn, withTimer}
 use Rattle.transitions.specs.declared.Send.{Send}
 use Rattle.transitions.specs.declared.Send.the-variants.{Nothing, ImmediateSetup, Setup, TerminationRequest}
+use Rattle.transitions.specs.declared.Stores.{Stores}
+use Rattle.transitions.specs.declared.Stores.the-variants as Stores
+use Rattle.transitions.specs.declared.Taken.{Taken}
 use Rattle.transitions.specs.declared.Decision.{Decision}
 use Rattle.transitions.specs.declared.Decision.the-variants.{Take, NoStep, Ignore, Report, TellStatus, SetParameters}
 
--- A row's event: one of a number, or a message of a type.
+-- ---- what a row is made of
+
+-- Its event: one of a number, or a message of a type.
 pub data Occasion : Type 0 where
   event : ℕ → Occasion
   message : ℕ → Occasion
 
--- Where a row holds: a state, and what is asked of the context there.
+-- What it asks of the context: nothing, ORIG true, or that a timer runs.
+pub data Asked : Type 0 where
+  nothing : Asked
+  ORIG : Asked
+  running : Timer → Asked
+
+-- Where it holds: a state, and what is asked there.
 abbrev pub Place : Type 0
-Place = State × (Context → Bool)
+Place = State × Asked
 
-abbrev pub holds : Context → Bool
-holds x = true
+-- Its next state. There is one case; a table that returns to a state which it remembered will have a second.
+pub data Next : Type 0 where
+  to : State → Next
 
-abbrev pub ORIG : Context → Bool
-ORIG x = x .parameters .orig
+-- Its actions: a sum, or CONNECT's, "32 if in U1 with T_MM-est, else 0".
+pub data Actions : Type 0 where
+  act : ℕ → Actions
+  implicit : Actions
 
-abbrev pub T-MM-est : Context → Bool
-T-MM-est x = x .timers .mmest
-
-abbrev pub T-term : Context → Bool
-T-term x = x .timers .term
-
-abbrev pub T-no-channel : Context → Bool
-T-no-channel x = x .timers .nochannel
-
--- What a row brings about beside its next state and actions.
+-- What it brings about beside them.
 pub data Effect : Type 0 where
   send : Send → Effect
   stop : Timer → Effect
   set : Timer → Effect
+  set-unless-running : Timer → Effect
+  store-value-and-reference : Effect
+  store-its-reference : Effect
 
--- A row of the table: states, event, next state, actions, effects.
 pub data Row : Type 0 where
-  row : (places : List Place) (occasion : Occasion) (next : State) (actions : State → Context → ℕ) (effects : List Effect) → Row
-
--- Actions that are the same wherever the row holds.
-abbrev pub act : ℕ → State → Context → ℕ
-act n s x = n
-
--- 32 if in U1 with T_MM-est, else 0.
-abbrev pub implicit : State → Context → ℕ
-implicit s x = cond (same s U1 && T-MM-est x) 32 0
+  row : (places : List Place) (occasion : Occasion) (next : Next) (actions : Actions) (effects : List Effect) → Row
 
 -- Each of these states, with nothing asked.
 abbrev pub each : List State → List Place
 each [] = []
-each (s ∷ more) = (s, holds) ∷ each more
+each (s ∷ more) = (s, nothing) ∷ each more
 
 abbrev pub allButU0 : List Place
 allButU0 = each (U0p ∷ U1 ∷ U2 ∷ U3 ∷ U4 ∷ U5 ∷ U6 ∷ [])
@@ -78,74 +80,100 @@ allButU0 = each (U0p ∷ U1 ∷ U2 ∷ U3 ∷ U4 ∷ U5 ∷ U6 ∷ [])
 abbrev pub U2-to-U6 : List Place
 U2-to-U6 = each (U2 ∷ U3 ∷ U4 ∷ U5 ∷ U6 ∷ [])
 
--- The table. Actions: 1 inform higher layers, 2 request an MM connection, 4 request group receive mode, 8 abort, 16 release,
--- 32 tell lower layers that the MM connection exists implicitly. (Events 1, 2 and 10 store their value and reference, CONNECT its reference:
--- that belongs to the event, and stands with it.)
+abbrev pub U0p-U1-with-T-MM-est : List Place
+U0p-U1-with-T-MM-est = (U0p, nothing) ∷ (U1, running MmEst) ∷ []
+
+abbrev pub U1-U2-ORIG : List Place
+U1-U2-ORIG = (U1, ORIG) ∷ (U2, ORIG) ∷ []
+
+-- ---- document 01's rows
+
+-- Actions: 1 inform higher layers, 2 request an MM connection, 4 request group receive mode, 8 abort, 16 release,
+-- 32 tell lower layers that the MM connection exists implicitly. "Events 1, 2 and 10 carry a transaction value and a reference, stored when taken."
 unfoldable pub stepTable : List Row
 stepTable =
-    row (each (U0 ∷ [])) (event 1) U0p (act 2) (set MmEst ∷ []) ∷
-    row (each (U0 ∷ [])) (event 2) U1 (act 0) (send ImmediateSetup ∷ set MmEst ∷ []) ∷
-    row (each (U0p ∷ [])) (event 6) U1 (act 0) (send Setup ∷ stop MmEst ∷ []) ∷
-    row ((U0p, holds) ∷ (U1, T-MM-est) ∷ []) (event 7) U0 (act 0) [] ∷
-    row ((U0p, holds) ∷ (U1, T-MM-est) ∷ []) (event 14) U0 (act 8) [] ∷
-    row (each (U0p ∷ U1 ∷ [])) (event 8) U0 (act 8) [] ∷
-    row (each (U0p ∷ U1 ∷ [])) (message CONNECT) U2 implicit (stop MmEst ∷ []) ∷
-    row (each (U0 ∷ [])) (event 10) U3 (act 1) [] ∷
-    row (each (U3 ∷ [])) (event 3) U4 (act 4) (set ConnReq ∷ []) ∷
-    row (each (U4 ∷ [])) (event 11) U6 (act 1) (stop ConnReq ∷ []) ∷
-    row (each (U4 ∷ [])) (event 16) U0 (act (1 + 8)) [] ∷
-    row (each (U6 ∷ [])) (event 12) U6 (act 1) (set NoChannel ∷ []) ∷  -- unless running: a timer that runs is left to run
-    row (each (U6 ∷ [])) (event 13) U6 (act 1) (stop NoChannel ∷ []) ∷
-    row ((U6, T-no-channel) ∷ []) (event 17) U0 (act (1 + 8)) [] ∷
-    row ((U1, ORIG) ∷ (U2, ORIG) ∷ []) (event 4) U5 (act 0) (send TerminationRequest ∷ stop MmEst ∷ set Term ∷ []) ∷
-    row (each (U5 ∷ [])) (message TERMINATION-REJECT) U5 (act 1) (stop Term ∷ []) ∷
-    row ((U5, T-term) ∷ []) (event 15) U0 (act (1 + 8)) [] ∷
-    row allButU0 (message TERMINATION) U0 (act (1 + 16)) [] ∷
-    row allButU0 (event 5) U0 (act 16) [] ∷
-    row allButU0 (event 9) U0 (act (1 + 8)) [] ∷
-    row U2-to-U6 (event 8) U0 (act (1 + 8)) [] ∷
+    row (each (U0 ∷ [])) (event 1) (to U0p) (act 2) (set MmEst ∷ store-value-and-reference ∷ []) ∷
+    row (each (U0 ∷ [])) (event 2) (to U1) (act 0) (send ImmediateSetup ∷ set MmEst ∷ store-value-and-reference ∷ []) ∷
+    row (each (U0p ∷ [])) (event 6) (to U1) (act 0) (send Setup ∷ stop MmEst ∷ []) ∷
+    row U0p-U1-with-T-MM-est (event 7) (to U0) (act 0) [] ∷
+    row U0p-U1-with-T-MM-est (event 14) (to U0) (act 8) [] ∷
+    row (each (U0p ∷ U1 ∷ [])) (event 8) (to U0) (act 8) [] ∷
+    row (each (U0p ∷ U1 ∷ [])) (message CONNECT) (to U2) implicit (store-its-reference ∷ stop MmEst ∷ []) ∷
+    row (each (U0 ∷ [])) (event 10) (to U3) (act 1) (store-value-and-reference ∷ []) ∷
+    row (each (U3 ∷ [])) (event 3) (to U4) (act 4) (set ConnReq ∷ []) ∷
+    row (each (U4 ∷ [])) (event 11) (to U6) (act 1) (stop ConnReq ∷ []) ∷
+    row (each (U4 ∷ [])) (event 16) (to U0) (act (1 + 8)) [] ∷
+    row (each (U6 ∷ [])) (event 12) (to U6) (act 1) (set-unless-running NoChannel ∷ []) ∷
+    row (each (U6 ∷ [])) (event 13) (to U6) (act 1) (stop NoChannel ∷ []) ∷
+    row ((U6, running NoChannel) ∷ []) (event 17) (to U0) (act (1 + 8)) [] ∷
+    row U1-U2-ORIG (event 4) (to U5) (act 0) (send TerminationRequest ∷ stop MmEst ∷ set Term ∷ []) ∷
+    row (each (U5 ∷ [])) (message TERMINATION-REJECT) (to U5) (act 1) (stop Term ∷ []) ∷
+    row ((U5, running Term) ∷ []) (event 15) (to U0) (act (1 + 8)) [] ∷
+    row allButU0 (message TERMINATION) (to U0) (act (1 + 16)) [] ∷
+    row allButU0 (event 5) (to U0) (act 16) [] ∷
+    row allButU0 (event 9) (to U0) (act (1 + 8)) [] ∷
+    row U2-to-U6 (event 8) (to U0) (act (1 + 8)) [] ∷
     []
 
--- What a row's effects send, which timer they stop and which they set; no row has two of a kind.
-abbrev pub sentBy : List Effect → Send
-sentBy [] = Nothing
-sentBy (send m ∷ more) = m
-sentBy (stop t ∷ more) = sentBy more
-sentBy (set t ∷ more) = sentBy more
+-- ---- what a row says in a context
 
-abbrev pub stoppedBy : List Effect → Timer
-stoppedBy [] = NoTimer
-stoppedBy (send m ∷ more) = stoppedBy more
-stoppedBy (stop t ∷ more) = t
-stoppedBy (set t ∷ more) = stoppedBy more
+abbrev pub met : Asked → Context → Bool
+met nothing x = true
+met ORIG x = x .parameters .orig
+met (running timer) x = isOn timer (x .timers)
 
-abbrev pub setBy : List Effect → Timer
-setBy [] = NoTimer
-setBy (send m ∷ more) = setBy more
-setBy (stop t ∷ more) = setBy more
-setBy (set t ∷ more) = t
+abbrev pub nextState : Next → State
+nextState (to s) = s
 
-abbrev pub taken : State → Context → State → (State → Context → ℕ) → List Effect → Decision
-taken s x next actions effects = Take next (actions s x) (sentBy effects) (stoppedBy effects) (setBy effects)
+abbrev pub actionsIn : State → Timers → Actions → ℕ
+actionsIn s t (act n) = n
+actionsIn s t implicit = cond (same s U1 && isOn MmEst t) 32 0
 
--- What a row says in the state `s`; `more` where it does not hold there.
-abbrev pub inPlace : {A : Type 0} → State → Context → List Place → Decision → (Decision → A) → A → A
-inPlace s x [] says here more = more
-inPlace s x (p ∷ ps) says here more = cond (same s (p .0)) (here (cond ((p .1) x) says NoStep)) (inPlace s x ps says here more)
+-- What an effect adds, where these timers run; no row has two of a kind.
+abbrev pub adding : Timers → Effect → Taken → Taken
+adding t (send m) d = record { next = d .next; actions = d .actions; sends = m; stops = d .stops; sets = d .sets; stores = d .stores }
+adding t (stop k) d = record { next = d .next; actions = d .actions; sends = d .sends; stops = k; sets = d .sets; stores = d .stores }
+adding t (set k) d = record { next = d .next; actions = d .actions; sends = d .sends; stops = d .stops; sets = k; stores = d .stores }
+adding t (set-unless-running k) d =
+    record { next = d .next; actions = d .actions; sends = d .sends; stops = d .stops; sets = cond (isOn k t) NoTimer k; stores = d .stores }
+adding t store-value-and-reference d =
+    record { next = d .next; actions = d .actions; sends = d .sends; stops = d .stops; sets = d .sets; stores = Stores.ValueAndReference }
+adding t store-its-reference d = record { next = d .next; actions = d .actions; sends = d .sends; stops = d .stops; sets = d .sets; stores = Stores.ItsReference }
 
--- The rows of a state, by event number.
+abbrev pub addingAll : Timers → List Effect → Taken → Taken
+addingAll t [] d = d
+addingAll t (e ∷ more) d = adding t e (addingAll t more d)
+
+-- What is taken by a row, in a state where these timers run.
+abbrev pub taken : State → Timers → Next → Actions → List Effect → Taken
+taken s t next actions effects =
+    addingAll t effects
+    (record { next = nextState next; actions = actionsIn s t actions; sends = Nothing; stops = NoTimer; sets = NoTimer; stores = Stores.Nothing })
+
+-- The timers afterwards: one is stopped, one is set.
+abbrev pub timersAfter : Taken → Timers → Timers
+timersAfter d t = withTimer (d .sets) true (withTimer (d .stops) false t)
+
+-- A row in the state `s`: what it takes if what it asks is so, and else `unmet`; `more` where it has no such state.
+abbrev pub inPlace : {A : Type 0} → State → Context → List Place → (takes unmet : Decision) → (Decision → A) → A → A
+inPlace s x [] takes unmet here more = more
+inPlace s x (p ∷ ps) takes unmet here more = cond (same s (p .0)) (here (cond (met (p .1) x) takes unmet)) (inPlace s x ps takes unmet here more)
+
+-- ---- what a table says
+
+-- The rows of a state, by event number: an event whose row asks for what is not so has no step.
 abbrev pub eventsIn : State → Context → List Row → List (ℕ × Decision)
 eventsIn s x [] = []
 eventsIn s x (row places (event n) next actions effects ∷ more) =
-    inPlace s x places (taken s x next actions effects) (λ d. (n, d) ∷ eventsIn s x more) (eventsIn s x more)
+    inPlace s x places (Take (taken s (x .timers) next actions effects)) NoStep (λ d. (n, d) ∷ eventsIn s x more) (eventsIn s x more)
 eventsIn s x (row places (message code) next actions effects ∷ more) = eventsIn s x more
 
--- The rows of a state, by message type.
+-- The rows of a state, by message type: a message whose row asks for what is not so is not compatible with the state, as one without a row.
 abbrev pub messagesIn : State → Context → List Row → List (ℕ × Decision)
 messagesIn s x [] = []
 messagesIn s x (row places (event n) next actions effects ∷ more) = messagesIn s x more
 messagesIn s x (row places (message code) next actions effects ∷ more) =
-    inPlace s x places (taken s x next actions effects) (λ d. (code, d) ∷ messagesIn s x more) (messagesIn s x more)
+    inPlace s x places (Take (taken s (x .timers) next actions effects)) (Report 98) (λ d. (code, d) ∷ messagesIn s x more) (messagesIn s x more)
 
 -- The two messages that have a sentence of their own, in any state but U0.
 abbrev pub sentences : List (ℕ × Decision)
@@ -165,19 +193,33 @@ incompatible =
     (SET-PARAMETER, Report 98) ∷
     []
 
-abbrev pub typesIn : State → Context → List (ℕ × Decision)
-typesIn s x = messagesIn s x stepTable ++ (sentences ++ incompatible)
+abbrev pub typesIn : List Row → State → Context → List (ℕ × Decision)
+typesIn table s x = messagesIn s x table ++ (sentences ++ incompatible)
 
 -- Rules 1 and 2: in U0 every message is ignored; elsewhere an unknown type is reported with 97.
-unfoldable pub heardIn : State → Context → ℕ → Decision
-heardIn s x code = cond (same s U0) Ignore (rows code (Report 97) (typesIn s x))
+unfoldable pub heardIn : List Row → State → Context → ℕ → Decision
+heardIn table s x code = cond (same s U0) Ignore (rows code (Report 97) (typesIn table s x))
 
-abbrev pub numbersIn : State → Context → ℕ → List (ℕ × Decision)
-numbersIn s x code = eventsIn s x stepTable ++ ((18, heardIn s x code) ∷ [])
+-- Every other event is answer 3.
+unfoldable pub happenedIn : List Row → State → Context → ℕ → Decision
+happenedIn table s x number = rows number NoStep (eventsIn s x table)
 
--- Every other pair is answer 3, or for a message as above.
-unfoldable pub decidedIn : State → Context → ℕ → ℕ → Decision
-decidedIn s x number code = rows number NoStep (numbersIn s x code)
+-- Event 18 is a message received.
+unfoldable pub decidedIn : List Row → State → Context → ℕ → ℕ → Decision
+decidedIn table s x number code = cond (eqb number 18) (heardIn table s x code) (happenedIn table s x number)
 
-unfoldable pub decidedOf : Context → ℕ → ℕ → Decision
-decidedOf x number code = decidedIn (x .state) x number code
+unfoldable pub decidedBy : List Row → Context → ℕ → ℕ → Decision
+decidedBy table x number code = decidedIn table (x .state) x number code
+
+-- Document 01's table.
+abbrev pub decidedOf : Context → ℕ → ℕ → Decision
+decidedOf = decidedBy stepTable
+
+-- The number of the timer that is set by what is decided, 0 for none.
+abbrev pub setBy : Decision → ℕ
+setBy (Take d) = timerNumber (d .sets)
+setBy NoStep = 0
+setBy Ignore = 0
+setBy (Report cause) = 0
+setBy TellStatus = 0
+setBy SetParameters = 0

@@ -1,46 +1,40 @@
 -- What an event does not carry has no effect on its step.
 use Prim.Native.Nat.{ℕ}
 use mathlib.Core.Path.{_≡_, refl, sym}
-use mathlib.Core.Bool.{Bool, true, false, not, _||_}
-use mathlib.Core.List.{List, [], _∷_}
+use mathlib.Core.Bool.{Bool, true, false, _||_}
+use mathlib.Core.List.{List, []}
 use lib.Dec.{eqb}
 use borrow.Author.Tests.{eqb-true}
-use Rattle.octets.specs.Rows.{rows}
-use Rattle.octets.proofs.Choice.{at-cond, never}
-use Rattle.codes.specs.declared.state.State.{State}
+use Rattle.octets.proofs.Choice.{never}
+use Rattle.octets.proofs.Rows.{at-rows}
 use Rattle.message.specs.declared.Reference.{Reference}
 use Rattle.context.specs.declared.Context.{Context}
-use Rattle.context.proofs.Whole.{at-state}
 use Rattle.transitions.specs.declared.Send.{Send}
 use Rattle.transitions.specs.declared.Send.the-variants.{Nothing, ImmediateSetup, Setup, TerminationRequest, Status, ErrorStatus}
 use Rattle.transitions.specs.declared.Decision.{Decision}
 use Rattle.transitions.specs.declared.Decision.the-variants.{Take, NoStep, Ignore, Report, TellStatus, SetParameters}
-use Rattle.transitions.specs.Table.{stepTable, decidedOf}
-use Rattle.transitions.proofs.Every.{Test, inTable, decided-holds}
+use Rattle.fitness.specs.First.{firstFitness}
+use Rattle.transitions.specs.Table.{stepTable}
+use Rattle.transitions.proofs.Sound.{isPlain, document-01}
+use Rattle.transitions.proofs.Decided.{Plain, event-plain as by-rows}
 use Rattle.call.specs.declared.Seen.{Seen}
-use Rattle.call.specs.declared.Stepped.{Stepped as Taken}
+use Rattle.call.specs.declared.Settled.{Settled}
+use Rattle.call.specs.Due.{settledBy, settled}
 use Rattle.call.specs.Events.{seenOf}
-use Rattle.call.specs.Step.{ignored, noStep, carriedOut, stepValue}
+use Rattle.call.specs.Step.{ignored, noStep, carriedOut, stepBy}
 use Rattle.reply.specs.declared.Own.{Own}
 use Rattle.reply.specs.Reply.{replyOf}
+use Rattle.step_arguments.specs.Arguments.{outOfRange, argumentRefusal}
 use Rattle.radio.specs.declared.Told.{Told}
 use Rattle.radio.specs.declared.Told.the-variants.{Is, NoEvent}
-use Rattle.radio.specs.Step.{events, eventOf, onEvent, reactedTo, outOfRange, reacted, stepOf}
-use Rattle.log.specs.Layout.{carriesCall, noReference}
-use Rattle.verdict.specs.Table.{Event, stepped}
+use Rattle.radio.specs.Step.{events, eventOf, toldDue, dueTo, reactedTo, refusalOf, reacted, stepOf}
+use Rattle.log_data.specs.Reading.{carriesCall, noReference}
+use Rattle.verdict.specs.Table.{GivenEvent, stepped}
 use Rattle.verdict.specs.Entries.{callReference, carriedBy}
 
--- ---- what holds of each event of the list of numbers holds of the event of a number
+-- ---- events and messages
 
-abbrev pub AllTold : (Told → Type 0) → List (ℕ × Told) → Type 0
-AllTold P [] = Unit {0}
-AllTold P (r ∷ rs) = P (r .1) × AllTold P rs
-
-pub every-told : (P : Told → Type 0) (n : ℕ) (d : Told) (rs : List (ℕ × Told)) → P d → AllTold P rs → P (rows n d rs)
-every-told P n d [] p ps = p
-every-told P n d (r ∷ rs) p ps = at-cond P (eqb n (r .0)) (r .1) (rows n d rs) (λ e. ps .0) (λ e. every-told P n d rs p (ps .1))
-
--- None of them is a message received.
+-- No event of a number is a message received.
 abbrev pub NoMessage : Told → Type 0
 NoMessage (Is event) = eqb (seenOf event .number) 18 ≡ false
 NoMessage NoEvent = Unit {0}
@@ -48,64 +42,38 @@ NoMessage NoEvent = Unit {0}
 pub no-message : (n v : ℕ) (r : Reference) → NoMessage (eventOf n v r)
 unfolding eventOf seenOf
 no-message n v r =
-    every-told NoMessage n NoEvent (events v r) tt
-    (refl, (refl, (refl, (refl, (refl, (refl, (refl, (refl, (refl, (refl, (refl, (refl, (refl, (refl, (refl, (refl, (refl, tt)))))))))))))))))
+    at-rows NoMessage n NoEvent (events v r) (
+      (λ e. refl),
+      ((λ e. refl), ((λ e. refl), ((λ e. refl), ((λ e. refl), ((λ e. refl), ((λ e. refl), ((λ e. refl), ((λ e. refl), ((λ e. refl), ((λ e. refl), ((λ e. refl), ((λ e. refl), ((λ e. refl), ((λ e. refl), ((λ e. refl), ((λ e. refl), tt)))))))))))))))),
+    )
+    (λ a. tt)
 
 -- ---- only the answer to a message copies it
 
-abbrev plain : Send → Bool
-plain Nothing = true
-plain ImmediateSetup = true
-plain Setup = true
-plain TerminationRequest = true
-plain (Status cause) = true
-plain (ErrorStatus cause) = false
-
-plain-reply : (own : Own) (identity s u : List ℕ) (x : Context) (sends : Send) → plain sends ≡ true → replyOf own identity s x sends ≡ replyOf own identity u x sends
+plain-reply : (own : Own) (identity s u : List ℕ) (x : Context) (sends : Send) → isPlain sends ≡ true → replyOf own identity s x sends ≡ replyOf own identity u x sends
 unfolding replyOf
 plain-reply own identity s u x Nothing e = refl
 plain-reply own identity s u x ImmediateSetup e = refl
 plain-reply own identity s u x Setup e = refl
 plain-reply own identity s u x TerminationRequest e = refl
-plain-reply own identity s u x (Status cause) e = refl
+plain-reply own identity s u x (Status cause) e = never e
 plain-reply own identity s u x (ErrorStatus cause) e = never e
 
-abbrev plainRow : Test
-plainRow n next actions sends stops sets = plain sends
+abbrev PlainTaken : Settled → Type 0
+PlainTaken t = isPlain (t .sends) ≡ true
 
-rows-plain : (x : Context) (s : State) → inTable plainRow s x stepTable ≡ true
-unfolding stepTable
-rows-plain x = at-state (λ s. inTable plainRow s x stepTable) refl
-
-abbrev Plain : Decision → Type 0
-Plain (Take next actions sends stops sets) = plain sends ≡ true
-Plain NoStep = Unit {0}
-Plain Ignore = Unit {0}
-Plain (Report cause) = ⊥
-Plain TellStatus = ⊥
-Plain SetParameters = ⊥
-
-decided-plain : (x : Context) (n code : ℕ) → eqb n 18 ≡ false → Plain (decidedOf x n code)
-unfolding decidedOf
-decided-plain x n code =
-    decided-holds plainRow (λ k d. eqb k 18 ≡ false → Plain d) (x .state) x (λ k next actions sends stops sets e f. e) (λ k f. tt) (rows-plain x (x .state))
-    (λ f. tt) (λ cause f. never (sym f)) (λ f. never (sym f)) (λ q f. never (sym f)) n code
-
-abbrev PlainTaken : Taken → Type 0
-PlainTaken t = plain (t .sends) ≡ true
-
-carried-plain : (x : Context) (d : Decision) (e : Seen) → Plain d → PlainTaken (carriedOut x d e)
+carried-plain : (x : Context) (d : Decision) (e : Seen) → Plain d → PlainTaken (carriedOut firstFitness x d e)
 unfolding carriedOut noStep ignored
-carried-plain x (Take next actions sends stops sets) e p = p
+carried-plain x (Take d) e p = p
 carried-plain x NoStep e p = refl
 carried-plain x Ignore e p = refl
 carried-plain x (Report cause) e p = absurd p
 carried-plain x TellStatus e p = absurd p
 carried-plain x SetParameters e p = absurd p
 
-event-plain : (x : Context) (t : Told) → NoMessage t → PlainTaken (onEvent x t)
-unfolding onEvent stepValue noStep
-event-plain x (Is event) h = carried-plain x _ (seenOf event) (decided-plain x (seenOf event .number) (seenOf event .code) h)
+event-plain : (x : Context) (t : Told) → NoMessage t → PlainTaken (settled x (toldDue t))
+unfolding settledBy toldDue stepBy noStep
+event-plain x (Is event) h = carried-plain x _ (seenOf event) (by-rows firstFitness 63 stepTable document-01 x (seenOf event .number) (seenOf event .code) h)
 event-plain x NoEvent h = refl
 
 -- ---- the step
@@ -122,13 +90,13 @@ call-not-received n c = go (eqb n 18) refl
     go true e = let q : n ≡ 18 = eqb-true n 18 e in never (rw q at c)
     go false e = refl
 
-module _ (own : Own) (identity : List ℕ) (x : Context) (e : Event) where
+module _ (own : Own) (identity : List ℕ) (x : Context) (e : GivenEvent) where
   abbrev number : ℕ
   number = e .happened .number
 
   -- Without a message, the octets do not matter.
-  no-octets : (t : Told) → NoMessage t → (s u : List ℕ) → reacted own identity s (onEvent x t) ≡ reacted own identity u (onEvent x t)
-  no-octets t h s u = rw (plain-reply own identity s u (onEvent x t .context) (onEvent x t .sends) (event-plain x t h))
+  no-octets : (t : Told) → NoMessage t → (s u : List ℕ) → reacted own identity s (settled x (toldDue t)) ≡ reacted own identity u (settled x (toldDue t))
+  no-octets t h s u = rw (plain-reply own identity s u (settled x (toldDue t) .context) (settled x (toldDue t) .sends) (event-plain x t h))
 
   -- Without a call, the value and the reference do not matter.
   no-call : carriesCall number ≡ false → (v w : ℕ) (r q : Reference) → eventOf number v r ≡ eventOf number w q
@@ -139,7 +107,7 @@ module _ (own : Own) (identity : List ℕ) (x : Context) (e : Event) where
       rw (a .0, b .0, b .1)
 
   pub only-carried : stepped own identity x (carriedBy e) ≡ stepped own identity x e
-  unfolding stepOf outOfRange reactedTo carriedBy carriesCall
+  unfolding stepOf refusalOf argumentRefusal outOfRange reactedTo dueTo carriedBy carriesCall
   only-carried = by-call (carriesCall number) refl
     where
       by-number : carriesCall number ≡ false → (m : Bool) → eqb number 18 ≡ m → stepped own identity x (carriedBy e) ≡ stepped own identity x e

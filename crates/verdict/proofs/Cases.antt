@@ -3,24 +3,31 @@ use Prim.Native.Nat.{ℕ}
 use mathlib.Core.Path.{_≡_, refl}
 use mathlib.Core.List.{List, [], _∷_, _++_}
 use Rattle.codes.specs.Attributes.{weighs}
-use Rattle.context.specs.Context.{startRow, cleared}
-use Rattle.context.specs.Fit.{consistent, timersFit, isCleared, fitOf}
-use Rattle.context.specs.Running.{runs, expiryOf, lengthOf}
-use Rattle.transitions.specs.Table.{stepTable, heardIn, decidedIn, decidedOf}
+use Rattle.context.specs.Context.{startRow, entering, cleared}
+use Rattle.fitness.specs.Fitness.{consistentBy, timersFitBy, isCleared, fitBy}
+use Rattle.fitness.specs.First.{firstFitness}
+use Rattle.timer.specs.Timers.{runningAmong, expiryOf, lengthOf, withTimer}
+use Rattle.transitions.specs.Table.{stepTable, heardIn, happenedIn, decidedIn, decidedBy}
+use Rattle.call.specs.Due.{settledBy}
 use Rattle.call.specs.Events.{seenOf}
-use Rattle.call.specs.Step.{withTimer, parametersAfter, valueAfter, referenceAfter, afterwards, ignored, noStep, carriedOut, stepValue}
+use Rattle.call.specs.Step.{parametersAfter, valueAfter, referenceAfter, afterwards, ignored, noStep, carriedOut, stepBy}
 use Rattle.reply.specs.declared.Own.{Own}
 use Rattle.reply.specs.Reply.{replyOf}
-use Rattle.received.specs.Received.{isNotOurs, sameOctets, heardOf}
-use Rattle.radio.specs.Step.{eventOf, onEvent, reactedTo, outOfRange, stepOf}
+use Rattle.received.specs.Received.{sameOctets}
+use Rattle.received.specs.Due.{dueOf}
+use Rattle.step_arguments.specs.Arguments.{settingsOut, outOfRange, argumentRefusal}
+use Rattle.radio.specs.Step.{eventOf, toldDue, dueTo, reactedTo, fitnessRefusal, refusalOf, stepOf}
 use Rattle.log_number.specs.Number.{joined, groupsAt, numberAt, upTo}
-use Rattle.log.specs.Layout.{carriesCall}
-use Rattle.log.specs.Reading.{smallAt, runAt, callAt, receivedAt, dataAt, claimAt, restAt, entryAt}
+use Rattle.log_data.specs.Reading.{carriesCall, callAt, receivedAt, dataAt}
+use Rattle.version.specs.Version.{tableOf, greatestEvent, greatestState, greatestActions}
+use Rattle.log_field.specs.Reading.{smallAt, runAt}
+use Rattle.log_claim.specs.Reading.{claimAt}
+use Rattle.log.specs.Reading.{restAt, entryAt}
 use Rattle.table.specs.Judge.{narrow, turn, judgeFrom, judge}
 use Rattle.table.specs.Reading.{entriesIn, entries}
 use Rattle.table.specs.OneTimer.{judgeOne}
 use Rattle.verdict.specs.Table.{parametersNumber, agree}
-use Rattle.verdict.specs.Judge.{settingsOut, versionJudged, judgeOf, answerNumber, answerValues}
+use Rattle.verdict.specs.Judge.{versionJudged, judgeOf, answerNumber, answerValues}
 
 -- Settings in range; none of these logs asks for what they are.
 abbrev own : Own
@@ -86,5 +93,5 @@ Answered (c ∷ cs) =
     ((answerNumber (judgeOf own identity (c .0)) ≡ c .1) × (answerValues (judgeOf own identity (c .0)) ≡ c .2)) × Answered cs
 
 pub all-cases : Answered cases
-unfolding judgeOf versionJudged settingsOut judgeOne judge judgeFrom turn narrow entries entriesIn numberAt groupsAt joined upTo smallAt runAt callAt receivedAt dataAt claimAt restAt entryAt carriesCall agree parametersNumber weighs stepOf outOfRange reactedTo eventOf onEvent stepValue seenOf carriedOut decidedOf decidedIn stepTable heardIn noStep ignored afterwards withTimer parametersAfter startRow valueAfter referenceAfter cleared fitOf consistent timersFit isCleared runs expiryOf lengthOf replyOf heardOf isNotOurs sameOctets
+unfolding judgeOf versionJudged tableOf settingsOut judgeOne judge judgeFrom turn narrow entries entriesIn numberAt groupsAt joined upTo smallAt runAt callAt receivedAt dataAt claimAt restAt entryAt greatestEvent greatestState greatestActions carriesCall agree parametersNumber weighs stepOf refusalOf fitnessRefusal argumentRefusal outOfRange reactedTo dueTo eventOf toldDue settledBy stepBy seenOf carriedOut decidedBy decidedIn stepTable heardIn happenedIn noStep ignored afterwards withTimer parametersAfter entering startRow valueAfter referenceAfter cleared fitBy consistentBy timersFitBy isCleared runningAmong expiryOf lengthOf replyOf dueOf sameOctets firstFitness
 all-cases = ((refl, refl), ((refl, refl), ((refl, refl), ((refl, refl), ((refl, refl), ((refl, refl), ((refl, refl), ((refl, refl), ((refl, refl), ((refl, refl), ((refl, refl), ((refl, refl), tt))))))))))))

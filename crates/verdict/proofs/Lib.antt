@@ -1,9 +1,10 @@
 pub mod Laws
+pub mod Near
 pub mod Kept
 pub mod Carried
 pub mod Demand
+pub mod Formed
 pub mod Recorder
 pub mod Recordable
 pub mod Start
 pub mod Cases
-pub mod Settings

@@ -20,14 +20,18 @@ use Rattle.radio.specs.Step.{refusalOf}
 use Rattle.radio.proofs.Range.{InRange, in-range, refused-over, number-least, number-most, mode-most, value-most}
 use Rattle.radio.proofs.Reacting.{step-by}
 use Rattle.radio.proofs.Answers.{Honest, step-honest, step-short}
-use Rattle.log.specs.declared.Reference.{Reference}
-use Rattle.log.specs.Layout.{Field, number, octets, allInRange, carriesCall, dataFields, claimFields, fields, ranged}
+use Rattle.version.specs.declared.Table.{Table}
+use Rattle.version.specs.declared.Table.the-variants.{First}
+use Rattle.version.specs.Version.{greatestEvent, greatestState, greatestActions, longest}
+use Rattle.log_data.specs.declared.Reference.{Reference}
+use Rattle.log_data.specs.Reading.{carriesCall}
+use Rattle.log.specs.Layout.{Field, number, octets, allInRange, dataFields, claimFields, fields, ranged}
 use Rattle.recorder.specs.Recording.{added, recordAnswer, answerNumber}
 use Rattle.recorder.specs.declared.Recorded.{Recorded}
 use Rattle.recorder.specs.declared.Recorded.the-variants.{Used, OutOfRange, TooLong, NoRoom}
 use Rattle.table.specs.Log.{Entry}
 use Rattle.table.specs.Recorded.{Move, entryOf}
-use Rattle.verdict.specs.Table.{Event, parametersNumber, claimOf, stepped, steps, recordable}
+use Rattle.verdict.specs.Table.{GivenEvent, parametersNumber, claimOf, stepped, steps, recordable}
 use Rattle.verdict.specs.Entries.{meantBy}
 
 -- ---- fields in range
@@ -60,8 +64,8 @@ data-first event value reference mode message more v m l r =
     Good fs = allInRange (fs ++ more) ≡ true
 
 claim-ranged : (answer state parameters actions : ℕ) (reply : List ℕ) → answer ≤ 3 → state ≤ 7 → parameters ≤ 15 → actions ≤ 63 → length reply ≤ 255
-    → allInRange (claimFields answer state parameters actions reply) ≡ true
-unfolding claimFields
+    → allInRange (claimFields First answer state parameters actions reply) ≡ true
+unfolding claimFields greatestState greatestActions
 claim-ranged answer state parameters actions reply a s p c l =
     number-first 0 3 answer _ (omega arith) a
     (number-first 0 7 state _ (omega arith) s
@@ -94,15 +98,15 @@ parameters-most p =
 -- ---- the step
 
 -- The entry that the recorder is told of after a step: so many milliseconds since the entry before, the event, and what the step gave.
-abbrev pub entryAfter : (version : ℕ) (own : Own) (identity : List ℕ) → Context → Event → ℕ → Entry (steps version own identity)
-entryAfter version own identity x e delta = record { delta = delta; event = e; claim = claimOf (stepped own identity x e) }
+abbrev pub entryAfter : (table : Table) (own : Own) (identity : List ℕ) → Context → GivenEvent → ℕ → Entry (steps table own identity)
+entryAfter table own identity x e delta = record { delta = delta; event = e; claim = claimOf (stepped own identity x e) }
 
 -- It is the entry that `specs/Host` has a host tell of.
-pub entry-as-told : (version : ℕ) (own : Own) (identity : List ℕ) (x : Context) (waited : ℕ) (m : Move (steps version own identity))
-    → entryAfter version own identity x (m .event) (waited + m .wait) ≡ entryOf (steps version own identity) x waited m
-entry-as-told version own identity x waited m = refl
+pub entry-as-told : (table : Table) (own : Own) (identity : List ℕ) (x : Context) (waited : ℕ) (m : Move (steps table own identity))
+    → entryAfter table own identity x (m .event) (waited + m .wait) ≡ entryOf (steps table own identity) x waited m
+entry-as-told table own identity x waited m = refl
 
-module _ (own : Own) (identity : List ℕ) (x : Context) (e : Event) (answered : recordable own identity x e ≡ true) where
+module _ (own : Own) (identity : List ℕ) (x : Context) (e : GivenEvent) (answered : recordable own identity x e ≡ true) where
   abbrev refusal : ℕ
   refusal = refusalOf x (own .key) (length identity) (e .happened) (length (e .octets)) 255
 
@@ -133,10 +137,10 @@ module _ (own : Own) (identity : List ℕ) (x : Context) (e : Event) (answered :
   unfolding carriesCall
   call-most c = leb-true _ 6 (value-most (own .key) (length identity) (e .happened) (passes .range) c)
 
-  module _ (version delta : ℕ) (day : delta ≤ 86400000) where
+  module _ (delta : ℕ) (day : delta ≤ 86400000) where
     -- Each number of the entry is in range. The context may be any: one that is not fit is answered 7.
-    pub true-step-ranged : ranged (meantBy version own identity (entryAfter version own identity x e delta)) ≡ true
-    unfolding ranged fields
+    pub true-step-ranged : ranged First (meantBy First own identity (entryAfter First own identity x e delta)) ≡ true
+    unfolding ranged fields greatestEvent
     true-step-ranged =
         let h : Honest x (stepped own identity x e) = step-honest own identity 255 x (e .happened) (e .octets) in
         let l : length (stepped own identity x e .reply) ≤ 251 = step-short own identity 255 x (e .happened) (e .octets) in
@@ -148,11 +152,11 @@ module _ (own : Own) (identity : List ℕ) (x : Context) (e : Event) (answered :
         (h .few) (omega (arith, l)))))
 
     -- So with no more bytes used than there are, the recorder does not answer 4: it records the entry, or answers 10 or 11.
-    pub true-step-recorded : (log : List ℕ) (used : ℕ) → used ≤ length log → recordAnswer log used (meantBy version own identity (entryAfter version own identity x e delta)) ≡ OutOfRange → ⊥
+    pub true-step-recorded : (log : List ℕ) (used : ℕ) → used ≤ length log → recordAnswer First log used (meantBy First own identity (entryAfter First own identity x e delta)) ≡ OutOfRange → ⊥
     unfolding recordAnswer
     true-step-recorded log used inside =
         rw (le-ltb (length log) used inside, true-step-ranged)
-        (at-cond Other (ltb 65536 total) TooLong _ (λ t q. let z : _≡_ {A = ℕ} 10 4 = ap answerNumber q in omega arith)
+        (at-cond Other (ltb longest total) TooLong _ (λ t q. let z : _≡_ {A = ℕ} 10 4 = ap answerNumber q in omega arith)
         (λ t. at-cond Other (ltb (length log) total) NoRoom (Used total) (λ u q. let z : _≡_ {A = ℕ} 11 4 = ap answerNumber q in omega arith)
         (λ u q. let z : _≡_ {A = ℕ} 0 4 = ap answerNumber q in omega arith)))
       where
@@ -160,4 +164,13 @@ module _ (own : Own) (identity : List ℕ) (x : Context) (e : Event) (answered :
         Other r = r ≡ OutOfRange → ⊥
 
         total : ℕ
-        total = used + length (added used (meantBy version own identity (entryAfter version own identity x e delta)))
+        total = used + length (added First used (meantBy First own identity (entryAfter First own identity x e delta)))
+
+    -- And within the limits of a log it records the entry.
+    pub true-step-taken : (log : List ℕ) (used : ℕ)
+        → used + length (added First used (meantBy First own identity (entryAfter First own identity x e delta))) ≤ longest
+        → used + length (added First used (meantBy First own identity (entryAfter First own identity x e delta))) ≤ length log
+        → recordAnswer First log used (meantBy First own identity (entryAfter First own identity x e delta))
+        ≡ Used (used + length (added First used (meantBy First own identity (entryAfter First own identity x e delta))))
+    unfolding recordAnswer
+    true-step-taken log used short room = rw (le-ltb (length log) used (omega arith), true-step-ranged, le-ltb longest _ short, le-ltb (length log) _ room) refl

@@ -4,23 +4,32 @@ use mathlib.Core.Path.{_≡_, refl, sym, ap, _∙_}
 use mathlib.Core.Bool.{Bool, true, false, cond}
 use mathlib.Core.List.{List, [], _∷_, _++_, append-assoc, append-nil}
 use native.Mathlib.Omega.{arith}
+use native.Mathlib.Nat.{zero-add}
 use lib.Dec.{eqb}
 use lib.ListN.{length, take}
 use lib.Seq.{length-take-le}
-use borrow.Author.Tests.{lt-leb}
 use Rattle.context.specs.declared.Context.{Context}
 use Rattle.reply.specs.declared.Own.{Own}
-use Rattle.log_number.specs.Number.{groupsAt, numberAt}
+use Rattle.step_arguments.specs.Arguments.{settingsOut}
+use Rattle.version.specs.declared.Table.{Table}
+use Rattle.version.specs.declared.Table.the-variants.{First}
+use Rattle.version.specs.Version.{versionOf, tableOf, longest}
+use Rattle.version.proofs.Back.{table-number}
+use Rattle.version.proofs.Tables.{number-small}
+use Rattle.log_number.specs.Number.{grouped, groups, groupsAt, joined, numberAt}
 use Rattle.log_number.specs.declared.Number.the-variants.{Value}
-use Rattle.log.specs.Layout.{Meant, carriesCall, ranged, kept, entries as layout, whole}
+use Rattle.log_number.proofs.Meaning.{number-reads}
+use Rattle.log_data.specs.Reading.{carriesCall}
+use Rattle.log.specs.Layout.{Meant, ranged, kept, versionBytes, entries as layout, whole}
 use Rattle.log.proofs.ReadBack.{kept-written, kept-ranged}
-use Rattle.recorder.specs.Recording.{Records, soFar}
+use Rattle.recorder.specs.Recording.{Records, Begins as LogBegins, soFar}
 use Rattle.recorder.specs.declared.Recorded.the-variants.{Used}
-use Rattle.recorder.proofs.Growth.{grown, length-kept, log-grows, version-byte}
+use Rattle.recorder.proofs.Growth.{grown, length-kept, log-grows, whole-grows, begun-log}
 use Rattle.table.specs.Steps.{Steps}
 use Rattle.table.specs.Log.{Entry, Moment, begin, next, Explains}
 use Rattle.table.specs.Timers.{Interval, Within}
-use Rattle.table.specs.Reading.{asLog, written as writtenBy, AllFine}
+use Rattle.table.specs.Judge.{judge, judgeFrom}
+use Rattle.table.specs.Reading.{asLog, entries, entriesIn, written as writtenBy, AllFine}
 use Rattle.table.specs.OneTimer.{oneTimer, lengthsWith, InRange, told, judgeOne}
 use Rattle.table.specs.Recorded.{Move, entryOf, recorded, MadeInTime}
 use Rattle.table.proofs.OneTimer.{one-timer-laws}
@@ -28,7 +37,7 @@ use Rattle.table.proofs.Complete.{recorded-explained, written-accepted}
 use Rattle.verdict.specs.declared.Judged.the-variants.{Accepted}
 use Rattle.verdict.specs.Table.{steps, joining, recordable}
 use Rattle.verdict.specs.Entries.{carriedBy, meantBy, carriedEntry, writer}
-use Rattle.verdict.specs.Judge.{settingsOut, judgedOf, judgeOf}
+use Rattle.verdict.specs.Judge.{versionJudged, judgedOf, judgeOf}
 use Rattle.verdict.specs.Demand.{Begins}
 use Rattle.verdict.specs.Host.{Recording}
 use Rattle.verdict.proofs.Laws.{steps-laws}
@@ -46,48 +55,48 @@ kept-twice m = go (carriesCall (m .event)) (eqb (m .event) 18) refl refl
     go false true p q = rw (p, q)
     go false false p q = rw (p, q)
 
-module _ (version : ℕ) (own : Own) (identity : List ℕ) where
+module _ (table : Table) (own : Own) (identity : List ℕ) where
   abbrev 𝓢 : Steps
-  𝓢 = steps version own identity
+  𝓢 = steps table own identity
 
   -- ---- what a log keeps of entries
 
-  abbrev carriedAll : List (Entry 𝓢) → List (Entry 𝓢)
+  abbrev pub carriedAll : List (Entry 𝓢) → List (Entry 𝓢)
   carriedAll [] = []
-  carriedAll (e ∷ es) = carriedEntry version own identity e ∷ carriedAll es
+  carriedAll (e ∷ es) = carriedEntry table own identity e ∷ carriedAll es
 
-  abbrev meantAll : List (Entry 𝓢) → List Meant
+  abbrev pub meantAll : List (Entry 𝓢) → List Meant
   meantAll [] = []
-  meantAll (e ∷ es) = meantBy version own identity e ∷ meantAll es
+  meantAll (e ∷ es) = meantBy table own identity e ∷ meantAll es
 
   carried-count : (es : List (Entry 𝓢)) → length (carriedAll es) ≡ length es
   carried-count [] = refl
   carried-count (e ∷ es) = rw (carried-count es)
 
-  meant-carried : (e : Entry 𝓢) → meantBy version own identity (carriedEntry version own identity e) ≡ kept (meantBy version own identity e)
+  meant-carried : (e : Entry 𝓢) → meantBy table own identity (carriedEntry table own identity e) ≡ kept (meantBy table own identity e)
   unfolding kept carriedBy
   meant-carried e = go (carriesCall (e .event .happened .number)) refl
     where
       go : (c : Bool) → carriesCall (e .event .happened .number) ≡ c
-          → meantBy version own identity (carriedEntry version own identity e) ≡ kept (meantBy version own identity e)
+          → meantBy table own identity (carriedEntry table own identity e) ≡ kept (meantBy table own identity e)
       go true c = rw c
       go false c = rw c
 
-  carried-written : (es : List (Entry 𝓢)) → writtenBy (writer version own identity) (carriedAll es) ≡ layout (meantAll es)
+  pub carried-written : (es : List (Entry 𝓢)) → writtenBy (writer table own identity) (carriedAll es) ≡ layout table (meantAll es)
   unfolding layout
   carried-written [] = refl
-  carried-written (e ∷ es) = rw (meant-carried e, kept-written (meantBy version own identity e), carried-written es)
+  carried-written (e ∷ es) = rw (meant-carried e, kept-written table (meantBy table own identity e), carried-written es)
 
-  abbrev AllRanged : List (Entry 𝓢) → Type 0
+  abbrev pub AllRanged : List (Entry 𝓢) → Type 0
   AllRanged [] = Unit {0}
-  AllRanged (e ∷ es) = (ranged (meantBy version own identity e) ≡ true) × AllRanged es
+  AllRanged (e ∷ es) = (ranged table (meantBy table own identity e) ≡ true) × AllRanged es
 
-  carried-fine : (es : List (Entry 𝓢)) → AllRanged es → AllFine (writer version own identity) (carriedAll es)
+  pub carried-fine : (es : List (Entry 𝓢)) → AllRanged es → AllFine (writer table own identity) (carriedAll es)
   carried-fine [] r = tt
   carried-fine (e ∷ es) r = (
     record {
-      in-range = rw (meant-carried e) (kept-ranged (meantBy version own identity e) ∙ r .0);
-      carried = rw (meant-carried e) (kept-twice (meantBy version own identity e));
+      in-range = rw (meant-carried e) (kept-ranged table (meantBy table own identity e) ∙ r .0);
+      carried = rw (meant-carried e) (kept-twice (meantBy table own identity e));
     },
     carried-fine es (r .1),
   )
@@ -103,39 +112,46 @@ module _ (version : ℕ) (own : Own) (identity : List ℕ) where
 
   -- ---- what the recorder leaves
 
-  pub record Grows (past : List Meant) (es : List (Entry 𝓢)) (used : ℕ) (before after : List ℕ) (total : ℕ) : Type 0 where
-    pub bytes : take total after ≡ soFar (past ++ meantAll es)
+  -- What the bytes used are to entries recorded so far, such that one entry more makes them the bytes of one more: nothing at first and then a log, or a
+  -- log from the beginning.
+  abbrev Growing : (List Meant → List ℕ) → Type 0
+  Growing so =
+      (past : List Meant) (e : Meant) (used : ℕ) (before after : List ℕ) (total : ℕ) → take used before ≡ so past
+      → Records table e used before after (Used total) → take total after ≡ so (past ++ (e ∷ []))
+
+  pub record Grows (so : List Meant → List ℕ) (past : List Meant) (es : List (Entry 𝓢)) (used : ℕ) (before after : List ℕ) (total : ℕ) : Type 0 where
+    pub bytes : take total after ≡ so (past ++ meantAll es)
     pub in-range : AllRanged es
     pub inside : total ≤ length after
-    pub short : used ≤ 65536 → total ≤ 65536
+    pub short : used ≤ longest → total ≤ longest
 
-  recording-grows : (ms : List (Move 𝓢)) (x : Context) (waited used : ℕ) (before after : List ℕ) (total : ℕ) (past : List Meant) → take used before ≡ soFar past
-      → used ≤ length before → Recording version own identity ms x waited used before after total
-      → Grows past (recorded 𝓢 (recordable own identity) ms x waited) used before after total
-  recording-grows [] x waited used before after total past q h r =
+  recording-grows : (so : List Meant → List ℕ) → Growing so → (ms : List (Move 𝓢)) (x : Context) (waited used : ℕ) (before after : List ℕ) (total : ℕ) (past : List Meant) → take used before ≡ so past
+      → used ≤ length before → Recording table own identity ms x waited used before after total
+      → Grows so past (recorded 𝓢 (recordable own identity) ms x waited) used before after total
+  recording-grows so growing [] x waited used before after total past q h r =
       record { bytes = rw (r .0, r .1, append-nil) q; in-range = tt; inside = rw (r .0, r .1) h; short = λ k. rw (r .1) k }
-  recording-grows (m ∷ ms) x waited used before after total past q h r =
+  recording-grows so growing (m ∷ ms) x waited used before after total past q h r =
       go (recordable own identity x (m .event)) (entryOf 𝓢 x waited m) (recorded 𝓢 (recordable own identity) ms (𝓢 .after x (m .event)) 0)
       (recorded 𝓢 (recordable own identity) ms (𝓢 .after x (m .event)) (waited + m .wait))
-      (λ between so-far later p g k. recording-grows ms (𝓢 .after x (m .event)) 0 so-far between after total later p g k)
-      (λ k. recording-grows ms (𝓢 .after x (m .event)) (waited + m .wait) used before after total past q h k) r
+      (λ between so-far later p g k. recording-grows so growing ms (𝓢 .after x (m .event)) 0 so-far between after total later p g k)
+      (λ k. recording-grows so growing ms (𝓢 .after x (m .event)) (waited + m .wait) used before after total past q h k) r
     where
       go : (b : Bool) (e : Entry 𝓢) (es fs : List (Entry 𝓢))
-          → ((between : List ℕ) (so-far : ℕ) (later : List Meant) → take so-far between ≡ soFar later → so-far ≤ length between
-          → Recording version own identity ms (𝓢 .after x (m .event)) 0 so-far between after total → Grows later es so-far between after total)
-          → (Recording version own identity ms (𝓢 .after x (m .event)) (waited + m .wait) used before after total → Grows past fs used before after total)
+          → ((between : List ℕ) (so-far : ℕ) (later : List Meant) → take so-far between ≡ so later → so-far ≤ length between
+          → Recording table own identity ms (𝓢 .after x (m .event)) 0 so-far between after total → Grows so later es so-far between after total)
+          → (Recording table own identity ms (𝓢 .after x (m .event)) (waited + m .wait) used before after total → Grows so past fs used before after total)
           → cond b
-          ((between : List ℕ) × (so-far : ℕ) × Records (meantBy version own identity e) used before between (Used so-far)
-          × Recording version own identity ms (𝓢 .after x (m .event)) 0 so-far between after total)
-          (Recording version own identity ms (𝓢 .after x (m .event)) (waited + m .wait) used before after total)
-          → Grows past (cond b (e ∷ es) fs) used before after total
+          ((between : List ℕ) × (so-far : ℕ) × Records table (meantBy table own identity e) used before between (Used so-far)
+          × Recording table own identity ms (𝓢 .after x (m .event)) 0 so-far between after total)
+          (Recording table own identity ms (𝓢 .after x (m .event)) (waited + m .wait) used before after total)
+          → Grows so past (cond b (e ∷ es) fs) used before after total
       go false e es fs yes-way no-way p = no-way p
       go true e es fs yes-way no-way (between, so-far, p, rest) =
-          let g = grown (meantBy version own identity e) used before between so-far p in
-          let l : length between ≡ length before = length-kept (meantBy version own identity e) used before between so-far p in
-          let w = yes-way between so-far (past ++ (meantBy version own identity e ∷ [])) (log-grows past (meantBy version own identity e) used before between so-far q p) (omega (arith, g .inside)) rest in
+          let g = grown table (meantBy table own identity e) used before between so-far p in
+          let l : length between ≡ length before = length-kept table (meantBy table own identity e) used before between so-far p in
+          let w = yes-way between so-far (past ++ (meantBy table own identity e ∷ [])) (growing past (meantBy table own identity e) used before between so-far q p) (omega (arith, g .inside)) rest in
           record {
-            bytes = w .bytes ∙ ap soFar (simp append-assoc);
+            bytes = w .bytes ∙ ap so (simp append-assoc);
             in-range = (g .in-range, w .in-range);
             inside = w .inside;
             short = λ k. w .short (g .short);
@@ -143,49 +159,78 @@ module _ (version : ℕ) (own : Own) (identity : List ℕ) where
 
 -- ---- the promise
 
-version-reads : (rest : List ℕ) → numberAt (1 ∷ rest) 0 ≡ Value 1 1
-unfolding numberAt groupsAt
-version-reads rest = rw (lt-leb (length (1 ∷ rest)) 0 (omega arith))
+pub version-reads : (table : Table) (rest : List ℕ) → numberAt (versionBytes table ++ rest) 0 ≡ Value (versionOf table) (length (versionBytes table))
+version-reads table rest =
+    number-reads (versionOf table) (omega (arith, number-small table)) [] rest ∙ ap (Value (versionOf table)) (zero-add (length (versionBytes table)))
 
 -- "A log our recorder wrote from true steps is always accepted."
 -- A host makes steps from a cleared context on, under settings in range and one joining timer from 10,000 to 30,000 ms, each within the time rules. The
--- recorder is called after every step answered 0 to 3, from nothing used on, and takes each entry. Then the bytes used are accepted: every entry,
--- with the timer between the least and the greatest.
-module _ (own : Own) (identity : List ℕ) (settings : settingsOut (own .key) (length identity) ≡ false) (T : ℕ) (in-range : InRange joining T)
-    (ms : List (Move (steps 1 own identity))) (made : MadeInTime (steps 1 own identity) (recordable own identity) (lengthsWith joining T) ms (begin (steps 1 own identity)) 0)
-    (before after : List ℕ) (total : ℕ) (recording : Recording 1 own identity ms (steps 1 own identity .cleared) 0 0 before after total) (some : 0 < total) where
+-- recorder is called after every step answered 0 to 3 and takes each entry. Then the bytes used are accepted: every entry, with the timer between
+-- the least and the greatest.
+module _ (table : Table) (own : Own) (identity : List ℕ) (settings : settingsOut (own .key) (length identity) ≡ false) (T : ℕ) (in-range : InRange joining T)
+    (ms : List (Move (steps table own identity))) (made : MadeInTime (steps table own identity) (recordable own identity) (lengthsWith joining T) ms (begin (steps table own identity)) 0) where
   abbrev 𝓢₁ : Steps
-  𝓢₁ = steps 1 own identity
+  𝓢₁ = steps table own identity
 
-  abbrev es : List (Entry 𝓢₁)
-  es = recorded 𝓢₁ (recordable own identity) ms (𝓢₁ .cleared) 0
+  -- The entries that are recorded.
+  abbrev pub recordedEntries : List (Entry 𝓢₁)
+  recordedEntries = recorded 𝓢₁ (recordable own identity) ms (𝓢₁ .cleared) 0
 
-  grows : Grows 1 own identity [] es 0 before after total
-  unfolding soFar
-  grows = recording-grows 1 own identity ms (𝓢₁ .cleared) 0 0 before after total [] refl (omega arith) recording
+  abbrev pub AcceptedWith : List ℕ → Type 0
+  AcceptedWith log = (i : Interval) × (judgeOf own identity log ≡ Accepted (length recordedEntries) (i .least) (i .greatest)) × Within T i
 
-  used : length (take total after) ≡ total
-  used = length-take-le total after (grows .inside)
-
-  bytes : take total after ≡ (1 ∷ []) ++ writtenBy (writer 1 own identity) (carriedAll 1 own identity es)
-  unfolding soFar whole
-  bytes = go es (grows .bytes)
-    where
-      go : (fs : List (Entry 𝓢₁)) → take total after ≡ soFar (meantAll 1 own identity fs)
-          → take total after ≡ (1 ∷ []) ++ writtenBy (writer 1 own identity) (carriedAll 1 own identity fs)
-      go [] q = let z : total ≡ 0 = sym used ∙ ap length q in absurd (omega (arith, some))
-      go (f ∷ fs) q = q ∙ ap (λ (v : List ℕ). v ++ layout (meantAll 1 own identity (f ∷ fs))) version-byte ∙ ap (λ (r : List ℕ). 1 ∷ r) (sym (carried-written 1 own identity (f ∷ fs)))
-
-  pub recorder-accepted : (i : Interval) × (judgeOf own identity (take total after) ≡ Accepted (length es) (i .least) (i .greatest)) × Within T i
-  unfolding judgeOne
-  recorder-accepted =
-      let b : Begins own identity (take total after) = record {
-        tested = record { short = rw used (grows .short (omega arith)); settings = settings };
-        place = 1;
-        version = rw bytes (version-reads (writtenBy (writer 1 own identity) (carriedAll 1 own identity es)));
+  whole-accepted : (log : List ℕ) → log ≡ whole table (meantAll table own identity recordedEntries) → length log ≤ longest → AllRanged table own identity recordedEntries
+      → AcceptedWith log
+  unfolding judgeOne whole
+  whole-accepted log is short ranges =
+      let es : List (Entry 𝓢₁) = recordedEntries in
+      let bytes : log ≡ versionBytes table ++ writtenBy (writer table own identity) (carriedAll table own identity es)
+      = is ∙ ap (λ (r : List ℕ). versionBytes table ++ r) (sym (carried-written table own identity es)) in
+      let b : Begins own identity log = record {
+        tested = record { short = short; settings = settings };
+        number = versionOf table;
+        place = length (versionBytes table);
+        version = ap (λ (s : List ℕ). numberAt s 0) bytes ∙ version-reads table (writtenBy (writer table own identity) (carriedAll table own identity es));
+        table = table;
+        known = table-number table;
       } in
-      let x = carried-explained 1 own identity (lengthsWith joining T) es (begin 𝓢₁)
-      (recorded-explained 𝓢₁ (recordable own identity) (still 1 own identity) (lengthsWith joining T) ms (begin 𝓢₁) 0 made) in
-      let w = written-accepted 𝓢₁ (oneTimer joining) (steps-laws 1 own identity) (one-timer-laws joining (omega arith)) (writer 1 own identity)
-      (T, tt) (in-range, tt) (carriedAll 1 own identity es) (carried-fine 1 own identity es (grows .in-range)) x (1 ∷ []) (take total after) bytes in
-      (w .0 .0, judged-begins own identity (take total after) b ∙ ap judgedOf (ap told (w .1)) ∙ ap (λ (n : ℕ). Accepted n (w .0 .0 .least) (w .0 .0 .greatest)) (carried-count 1 own identity es), w .2 .0)
+      let x = carried-explained table own identity (lengthsWith joining T) es (begin 𝓢₁)
+      (recorded-explained 𝓢₁ (recordable own identity) (still table own identity) (lengthsWith joining T) ms (begin 𝓢₁) 0 made) in
+      let w = written-accepted 𝓢₁ (oneTimer joining) (steps-laws table own identity) (one-timer-laws joining (omega arith)) (writer table own identity)
+      (T, tt) (in-range, tt) (carriedAll table own identity es) (carried-fine table own identity es ranges) x (versionBytes table) log bytes in
+      let n : length (carriedAll table own identity es) ≡ length es = carried-count table own identity es in
+      (w .0 .0, judged-begins own identity log b ∙ ap judgedOf (ap told (w .1)) ∙ ap (λ (k : ℕ). Accepted k (w .0 .0 .least) (w .0 .0 .greatest)) n, w .2 .0)
+
+  -- From nothing used on: the bytes used, if there are any.
+  module _ (before after : List ℕ) (total : ℕ) (recording : Recording table own identity ms (𝓢₁ .cleared) 0 0 before after total) (some : 0 < total) where
+    grows-from-nothing : Grows table own identity (soFar table) [] recordedEntries 0 before after total
+    unfolding soFar
+    grows-from-nothing = recording-grows table own identity (soFar table) (log-grows table) ms (𝓢₁ .cleared) 0 0 before after total [] refl (omega arith) recording
+
+    pub recorder-accepted : AcceptedWith (take total after)
+    unfolding soFar
+    recorder-accepted =
+        let g = grows-from-nothing in
+        let used : length (take total after) ≡ total = length-take-le total after (g .inside) in
+        whole-accepted (take total after) (go recordedEntries used (g .bytes)) (rw used (g .short (omega arith))) (g .in-range)
+      where
+        go : (fs : List (Entry 𝓢₁)) → length (take total after) ≡ total → take total after ≡ soFar table (meantAll table own identity fs)
+            → take total after ≡ whole table (meantAll table own identity fs)
+        go [] u q = let z : total ≡ 0 = sym u ∙ ap length q in absurd (omega (arith, some))
+        go (f ∷ fs) u q = q
+
+  -- From a log that the recorder began on: the bytes used, whatever steps were made.
+  module _ (first before after : List ℕ) (used total : ℕ) (begun : LogBegins table first before (Used used))
+      (recording : Recording table own identity ms (𝓢₁ .cleared) 0 used before after total) where
+    pub begun-accepted : AcceptedWith (take total after)
+    begun-accepted =
+        let b = begun-log table first before used begun in
+        let g = recording-grows table own identity (whole table) (whole-grows table) ms (𝓢₁ .cleared) 0 used before after total [] (b .used) (b .inside) recording in
+        let u : length (take total after) ≡ total = length-take-le total after (g .inside) in
+        whole-accepted (take total after) (g .bytes) (rw u (g .short (b .short))) (g .in-range)
+
+-- A log that the recorder began, with no entry: it is accepted with 0 entries, and every joining timer is left.
+pub begun-alone : (own : Own) (identity : List ℕ) → settingsOut (own .key) (length identity) ≡ false → (before after : List ℕ) (used : ℕ)
+    → LogBegins First before after (Used used) → judgeOf own identity (take used after) ≡ Accepted 0 (joining .low) (joining .high)
+unfolding whole layout versionOf grouped groups judgeOf versionJudged tableOf numberAt groupsAt joined entries entriesIn judgeOne judge judgeFrom
+begun-alone own identity settings before after used begun = rw (begun-log First before after used begun .used, settings) refl

@@ -1,53 +1,16 @@
--- Which timer the row of a step sets. Document 01, "Events and steps", the column of effects; and "The log": a timer starts at the entry that turns it on.
+-- Which timer a step sets. Document 01, "The log": a timer starts at the entry that turns it on.
 use Prim.Native.Nat.{ℕ}
-use mathlib.Core.Bool.{cond, _&&_}
+use mathlib.Core.Bool.{cond}
 use mathlib.Core.List.{List}
 use lib.Dec.{eqb}
 use lib.ListN.{length}
 use Rattle.context.specs.declared.Context.{Context}
-use Rattle.transitions.specs.declared.Timer.{Timer}
-use Rattle.transitions.specs.declared.Timer.the-variants.{NoTimer, MmEst, Term, ConnReq, NoChannel}
-use Rattle.transitions.specs.declared.Decision.{Decision}
-use Rattle.transitions.specs.declared.Decision.the-variants.{Take, NoStep, Ignore, Report, TellStatus, SetParameters}
-use Rattle.transitions.specs.Table.{decidedOf}
-use Rattle.call.specs.declared.Event.{Event as CallEvent}
-use Rattle.call.specs.declared.Seen.{Seen}
-use Rattle.call.specs.Events.{seenOf}
+use Rattle.call.specs.Sets.{setByDue}
 use Rattle.reply.specs.declared.Own.{Own}
-use Rattle.radio.specs.declared.Happened.{Happened}
-use Rattle.radio.specs.declared.Told.{Told}
-use Rattle.radio.specs.declared.Told.the-variants.{Is, NoEvent}
-use Rattle.radio.specs.Step.{eventOf, refusalOf}
-use Rattle.verdict.specs.Table.{Event}
+use Rattle.radio.specs.Step.{dueTo, refusalOf}
+use Rattle.verdict.specs.Table.{GivenEvent}
 
--- The timers by number, as in the log's rules; 0 is none.
-abbrev pub timerNumber : Timer → ℕ
-timerNumber NoTimer = 0
-timerNumber MmEst = 1
-timerNumber Term = 2
-timerNumber ConnReq = 3
-timerNumber NoChannel = 4
-
--- The timer that a row sets. Event 12: "set T_no channel unless running".
-abbrev pub setBy : Context → (event : ℕ) → Decision → ℕ
-setBy x event (Take next actions sends stops sets) = cond (eqb event 12 && x .timers .nochannel) 0 (timerNumber sets)
-setBy x event NoStep = 0
-setBy x event Ignore = 0
-setBy x event (Report cause) = 0
-setBy x event TellStatus = 0
-setBy x event SetParameters = 0
-
-abbrev pub setByEvent : Context → CallEvent → ℕ
-setByEvent x event = let e : Seen = seenOf event in setBy x (e .number) (decidedOf x (e .number) (e .code))
-
-abbrev pub setByTold : Context → Told → ℕ
-setByTold x (Is event) = setByEvent x event
-setByTold x NoEvent = 0
-
--- The timer that a step sets: none where it is refused, none by a message (no row of a message sets one), else that of its row.
-unfoldable pub setsTimer : Own → List ℕ → Context → Event → ℕ
+-- Its number: none where the step is refused, else that which is set by what is due.
+unfoldable pub setsTimer : Own → List ℕ → Context → GivenEvent → ℕ
 setsTimer own identity x e =
-    let h : Happened = e .happened in
-    cond (eqb (refusalOf x (own .key) (length identity) h (length (e .octets)) 255) 0)
-    (cond (eqb (h .number) 18) 0 (setByTold x (eventOf (h .number) (h .value) (h .reference))))
-    0
+    cond (eqb (refusalOf x (own .key) (length identity) (e .happened) (length (e .octets)) 255) 0) (setByDue x (dueTo identity x (e .happened) (e .octets))) 0

@@ -36,16 +36,22 @@ use Rattle.message.specs.Content.{
 }
 use Rattle.message.specs.Tables.{typeOf, table}
 use Rattle.writing.specs.declared.Wrote.{Wrote}
-use Rattle.writing.specs.declared.Wrote.the-variants.{Written, OutOfRange}
-use Rattle.writing.specs.Bodies.{Writes, bodyOctets, bodyFits, causeOctets, runFits, halfFits, halfOctets, halfCount, statusFits}
-use Rattle.writing.proofs.Tests.{Good, good, Fine, fine, half-count}
+use Rattle.writing.specs.declared.Wrote.the-variants.{Written, ShortBuffer, OutOfRange}
+use Rattle.limits.specs.Limits.{runFits, halfFits, halfCount, statusFits}
+use Rattle.writing.specs.Bodies.{Writes, bodyOctets, bodyFits, causeOctets, halfOctets}
+use Rattle.limits.proofs.Tests.{Good, good, Fine, fine, half-count}
 
 module _ (d xs : List ℕ) (fits : Bool) where
   pub refused : fits ≡ false → Writes d xs fits OutOfRange d
   refused g = record { answer = simp g; after = simp g }
 
-  pub done : (n : ℕ) (e : List ℕ) → fits ≡ true → length xs ≡ n → e ≡ sets d 0 xs → Writes d xs fits (Written n) e
-  done n e g l q = record { answer = simp g (ap Written (sym l)); after = simp g q }
+  pub no-room : (n : ℕ) → fits ≡ true → length xs ≡ n → length d < n → Writes d xs fits ShortBuffer d
+  no-room n g l h = let k : length d < length xs = omega arith in record { answer = simp (g, lt-ltb _ _ k); after = simp (g, lt-ltb _ _ k) }
+
+  pub done : (n : ℕ) (e : List ℕ) → fits ≡ true → length xs ≡ n → n ≤ length d → e ≡ sets d 0 xs → Writes d xs fits (Written n) e
+  done n e g l h q =
+      let k : length xs ≤ length d = omega arith in
+      record { answer = simp (g, le-ltb _ _ k) (ap Written (sym l)); after = simp (g, le-ltb _ _ k) q }
 
 -- The kind that a message is decides.
 pub writes-at : (d s : List ℕ) (head : ℕ) (m n : Message) (r : Wrote) (e : List ℕ) → m ≡ n
@@ -75,56 +81,92 @@ unfolding bodyOctets typeOf table
 reject-octets head s run =
     ap (λ (x : List ℕ). head ∷ 0x36 ∷ length (runOctets s run) ∷ x) (sym (append-nil (runOctets s run)))
 
+-- How many octets each kind takes.
+pub connect-count : (head : ℕ) (r : Reference) (o : ℕ) → length (bodyOctets head (connect r o)) ≡ 7
+unfolding bodyOctets typeOf table
+connect-count head r o = refl
+
+pub parameter-count : (head a : ℕ) → length (bodyOctets head (setParameter a)) ≡ 3
+unfolding bodyOctets typeOf table
+parameter-count head a = refl
+
+module _ (s : List ℕ) (head : ℕ) (run : Run) where
+  pub cause-count : (kind : ℕ) → runFits s run 247 ≡ true → length (head ∷ kind ∷ causeOctets s run) ≡ 3 + run .count
+  cause-count kind g = let l : length (runOctets s run) ≡ run .count = good s run 247 g .full in omega arith
+
+  pub identified-count : runFits s run 8 ≡ true → length (bodyOctets head (getStatus (present (runOctets s run)))) ≡ 4 + run .count
+  unfolding bodyOctets typeOf table
+  identified-count g =
+      let k : length (runOctets s run ++ []) ≡ run .count = ap length (append-nil (runOctets s run)) ∙ good s run 8 g .full in
+      let u : suc (suc (suc (suc (length (runOctets s run ++ []))))) ≡ 4 + run .count = omega arith in
+      u
+
+  pub immediate-count : (key : ℕ) (c : Classmark) (r : Reference) → runFits s run 8 ≡ true
+      → length (bodyOctets head (immediateSetup key c (runOctets s run) r)) ≡ 12 + run .count
+  unfolding bodyOctets typeOf table
+  immediate-count key c r g = let l : length (runOctets s run) ≡ run .count = good s run 8 g .full in simp length-append (omega arith)
+
+  pub status-count : (x y : Half) → statusFits s run x y ≡ true
+      → length (bodyOctets head (status (runOctets s run) x y)) ≡ 3 + run .count + halfCount x + halfCount y
+  unfolding bodyOctets typeOf table
+  status-count x y ok =
+      let l : length (runOctets s run) ≡ run .count = good s run 247 (fine s run x y ok .run) .full in
+      let t : length (runOctets s run ++ (halfOctets 0xA x ++ (halfOctets 0xB y ++ []))) ≡ run .count + (halfCount x + halfCount y) =
+      length-append (runOctets s run) _ ∙ rw (append-nil, length-append, half-count, half-count, l) in
+      let u : suc (suc (suc (length (runOctets s run ++ (halfOctets 0xA x ++ (halfOctets 0xB y ++ [])))))) ≡ 3 + run .count + halfCount x + halfCount y = omega arith in
+      u
+
 module _ (d : List ℕ) (head : ℕ) (e : List ℕ) where
-  pub connect-done : (r : Reference) (o : ℕ) → o < 2
+  pub connect-done : (r : Reference) (o : ℕ) → o < 2 → 7 ≤ length d
       → e ≡ sets d 0 (head ∷ 0x33 ∷ r .first ∷ r .second ∷ r .third ∷ r .fourth ∷ o ∷ [])
       → Writes d (bodyOctets head (connect r o)) (ltb o 2) (Written 7) e
   unfolding bodyOctets typeOf table
-  connect-done r o h q =
-      let z : o + 16 * 0 ≡ o = omega arith in done d (bodyOctets head (connect r o)) _ 7 e (lt-ltb _ _ h) refl (rw z q)
+  connect-done r o h room q =
+      let z : o + 16 * 0 ≡ o = omega arith in done d (bodyOctets head (connect r o)) _ 7 e (lt-ltb _ _ h) refl room (rw z q)
 
-  pub parameter-done : (a : ℕ) → a < 16 → e ≡ sets d 0 (head ∷ 0x3A ∷ a ∷ [])
+  pub parameter-done : (a : ℕ) → a < 16 → 3 ≤ length d → e ≡ sets d 0 (head ∷ 0x3A ∷ a ∷ [])
       → Writes d (bodyOctets head (setParameter a)) (ltb a 16) (Written 3) e
   unfolding bodyOctets typeOf table
-  parameter-done a h q =
-      let z : a + 16 * 0 ≡ a = omega arith in done d (bodyOctets head (setParameter a)) _ 3 e (lt-ltb _ _ h) refl (rw z q)
+  parameter-done a h room q =
+      let z : a + 16 * 0 ≡ a = omega arith in done d (bodyOctets head (setParameter a)) _ 3 e (lt-ltb _ _ h) refl room (rw z q)
 
 module _ (d s : List ℕ) (head : ℕ) (run : Run) (e : List ℕ) where
-  pub cause-done : (kind : ℕ) → runFits s run 247 ≡ true → e ≡ sets d 0 (head ∷ kind ∷ run .count ∷ runOctets s run)
+  pub cause-done : (kind : ℕ) → runFits s run 247 ≡ true → 3 + run .count ≤ length d → e ≡ sets d 0 (head ∷ kind ∷ run .count ∷ runOctets s run)
       → Writes d (head ∷ kind ∷ causeOctets s run) (runFits s run 247) (Written (3 + run .count)) e
-  cause-done kind g q =
+  cause-done kind g room q =
       let l : length (runOctets s run) ≡ run .count = good s run 247 g .full in
-      done d (head ∷ kind ∷ causeOctets s run) _ (3 + run .count) e g (omega arith) (rw l q)
+      done d (head ∷ kind ∷ causeOctets s run) _ (3 + run .count) e g (cause-count s head run kind g) room (rw l q)
 
-  pub identified-done : runFits s run 8 ≡ true → e ≡ sets d 0 (head ∷ 0x39 ∷ 0x17 ∷ run .count ∷ runOctets s run)
+  pub identified-done : runFits s run 8 ≡ true → 4 + run .count ≤ length d → e ≡ sets d 0 (head ∷ 0x39 ∷ 0x17 ∷ run .count ∷ runOctets s run)
       → Writes d (bodyOctets head (getStatus (present (runOctets s run)))) (runFits s run 8) (Written (4 + run .count)) e
   unfolding bodyOctets typeOf table
-  identified-done g q =
+  identified-done g room q =
       let l : length (runOctets s run) ≡ run .count = good s run 8 g .full in
-      done d (bodyOctets head (getStatus (present (runOctets s run)))) _ (4 + run .count) e g
-      (let k : length (runOctets s run ++ []) ≡ run .count = ap length (append-nil (runOctets s run)) ∙ l in
-      let u : suc (suc (suc (suc (length (runOctets s run ++ []))))) ≡ 4 + run .count = omega arith in
-      u)
-      (rw (append-nil, l) q)
+      done d (bodyOctets head (getStatus (present (runOctets s run)))) _ (4 + run .count) e g (identified-count s head run g) room (rw (append-nil, l) q)
 
-  pub immediate-done : (key : ℕ) (c : Classmark) (r : Reference) (f : List ℕ) → key < 8 → runFits s run 8 ≡ true
+  pub immediate-done : (key : ℕ) (c : Classmark) (r : Reference) (f : List ℕ) → key < 8 → runFits s run 8 ≡ true → 12 + run .count ≤ length d
       → e ≡ sets d 0 (head ∷ 0x31 ∷ (16 * key) ∷ 3 ∷ c .first ∷ c .second ∷ c .third ∷ run .count ∷ runOctets s run)
       → f ≡ sets e (8 + run .count) (referenceOctets r)
       → Writes d (bodyOctets head (immediateSetup key c (runOctets s run) r)) (ltb key 8 && runFits s run 8) (Written (12 + run .count)) f
   unfolding bodyOctets typeOf table
-  immediate-done key c r f h g p q =
+  immediate-done key c r f h g room p q =
       let l : length (runOctets s run) ≡ run .count = good s run 8 g .full in
       let z : 0 + 16 * key ≡ 16 * key = omega arith in
       done d (bodyOctets head (immediateSetup key c (runOctets s run) r)) _ (12 + run .count) f (simp (lt-ltb _ _ h, g))
-      (simp length-append (omega arith))
+      (immediate-count s head run key c r g) room
       (rw (z, l)
       (sets-then d e f (head ∷ 0x31 ∷ (16 * key) ∷ 3 ∷ c .first ∷ c .second ∷ c .third ∷ run .count ∷ runOctets s run) (referenceOctets r) (8 + run .count)
       (omega arith) p q))
 
-pub get-status-bare : (d s : List ℕ) (head : ℕ) (identity : Identity) → identity ≡ Anonymous
+pub get-status-bare : (d s : List ℕ) (head : ℕ) (identity : Identity) → identity ≡ Anonymous → 2 ≤ length d
     → Writes d (bodyOctets head (contentOf s (GetStatus identity))) (bodyFits s (GetStatus identity)) (Written 2) (set (set d 0 head) 1 0x39)
 unfolding bodyOctets typeOf table
-get-status-bare d s head identity q = rw q (done d (head ∷ 0x39 ∷ []) true 2 (set (set d 0 head) 1 0x39) refl refl refl)
+get-status-bare d s head identity q room = rw q (done d (head ∷ 0x39 ∷ []) true 2 (set (set d 0 head) 1 0x39) refl refl room refl)
+
+pub get-status-short : (d s : List ℕ) (head : ℕ) (identity : Identity) → identity ≡ Anonymous → length d < 2
+    → Writes d (bodyOctets head (contentOf s (GetStatus identity))) (bodyFits s (GetStatus identity)) ShortBuffer d
+unfolding bodyOctets typeOf table
+get-status-short d s head identity q room = rw q (no-room d (head ∷ 0x39 ∷ []) true 2 refl refl room)
 
 pub get-status-named : (d s : List ℕ) (head : ℕ) (identity : Identity) (run : Run) (r : Wrote) (e : List ℕ) → identity ≡ Named run
     → Writes d (bodyOctets head (contentOf s (GetStatus (Named run)))) (bodyFits s (GetStatus (Named run))) r e
@@ -133,6 +175,9 @@ get-status-named d s head identity run r e q p = rw q p
 
 pub immediate-key : (key : ℕ) (b : Bool) → 8 ≤ key → ltb key 8 && b ≡ false
 immediate-key key b h = simp (le-ltb _ _ h)
+
+pub immediate-both : (key : ℕ) (b : Bool) → key < 8 → b ≡ true → ltb key 8 && b ≡ true
+immediate-both key b h e = simp (lt-ltb _ _ h, e)
 
 pub immediate-run : (key : ℕ) (b : Bool) → b ≡ false → ltb key 8 && b ≡ false
 immediate-run key b h = simp (h, and-false)
@@ -147,20 +192,17 @@ pub put-one : (d : List ℕ) (at identifier value : ℕ) (half : Half) → half 
 put-one d at identifier value half e = rw e (refl, refl)
 
 pub status-done : (d s : List ℕ) (head : ℕ) (run : Run) (x y : Half) (e f g : List ℕ) (m n : ℕ) → statusFits s run x y ≡ true
-    → e ≡ sets d 0 (head ∷ 0x38 ∷ run .count ∷ runOctets s run)
+    → 3 + run .count + halfCount x + halfCount y ≤ length d → e ≡ sets d 0 (head ∷ 0x38 ∷ run .count ∷ runOctets s run)
     → m ≡ 3 + run .count + halfCount x → f ≡ sets e (3 + run .count) (halfOctets 0xA x)
     → n ≡ m + halfCount y → g ≡ sets f m (halfOctets 0xB y)
     → Writes d (bodyOctets head (status (runOctets s run) x y)) (statusFits s run x y) (Written n) g
 unfolding bodyOctets typeOf table
-status-done d s head run x y e f g m n ok p a q b r =
+status-done d s head run x y e f g m n ok room p a q b r =
     let l : length (runOctets s run) ≡ run .count = good s run 247 (fine s run x y ok .run) .full in
     let o : List ℕ = head ∷ 0x38 ∷ run .count ∷ runOctets s run in
     let z : f ≡ sets d 0 (o ++ halfOctets 0xA x) = sets-then d e f o (halfOctets 0xA x) (3 + run .count) (omega arith) p q in
     let k : length (o ++ halfOctets 0xA x) ≡ m = simp (length-append, half-count) (omega arith) in
     let w : g ≡ sets d 0 ((o ++ halfOctets 0xA x) ++ halfOctets 0xB y) = sets-then d f g (o ++ halfOctets 0xA x) (halfOctets 0xB y) m k z r in
-    done d (bodyOctets head (status (runOctets s run) x y)) (statusFits s run x y) n g ok
-    (let t : length (runOctets s run ++ (halfOctets 0xA x ++ (halfOctets 0xB y ++ []))) ≡ run .count + (halfCount x + halfCount y) =
-    length-append (runOctets s run) _ ∙ rw (append-nil, length-append, half-count, half-count, l) in
-    let u : suc (suc (suc (length (runOctets s run ++ (halfOctets 0xA x ++ (halfOctets 0xB y ++ [])))))) ≡ n = omega arith in
-    u)
+    let total : 3 + run .count + halfCount x + halfCount y ≡ n = omega arith in
+    done d (bodyOctets head (status (runOctets s run) x y)) (statusFits s run x y) n g ok (status-count s head run x y ok ∙ total) (omega arith)
     (rw (append-nil, l) (rw append-assoc at w))

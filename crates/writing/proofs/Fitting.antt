@@ -1,6 +1,6 @@
 -- The code's tests are the table's: a message passes the kinds' tests exactly if it fits its table and its runs lie within the octets.
 use Prim.Native.Nat.{ℕ, suc, _+_, _≤_, _<_}
-use mathlib.Core.Path.{_≡_, refl, sym, ap, _∙_}
+use mathlib.Core.Path.{_≡_, refl, sym, ap, subst, _∙_}
 use mathlib.Core.List.{List, [], _∷_, _++_, append-nil}
 use mathlib.Core.Bool.{Bool, true, false, cond, _&&_, and-true, and-false}
 use native.Mathlib.Omega.{arith}
@@ -25,15 +25,14 @@ use Rattle.message.specs.declared.Message.the-variants.{
   TerminationReject,
   TerminationRequest,
 }
-use Rattle.message.specs.Content.{contentOf, runOctets, referenceOctets}
+use Rattle.message.specs.Content.{contentOf, runOctets, lies, runsLie, referenceOctets}
 use Rattle.message.specs.Tables.{fits, table, typeOf, written, rowsFit, countFits}
-use lib.Seq.{sets}
 use Rattle.writing.specs.declared.Wrote.{Wrote}
-use Rattle.writing.specs.declared.Wrote.the-variants.{Written, ShortBuffer, OutOfRange}
-use Rattle.writing.specs.Writing.{lies, runsLie, writable, writeAnswer, writeLeaves}
-use Rattle.writing.specs.Bodies.{Writes, bodyOctets, bodyFits, runFits, halfFits, halfOctets, halfCount, statusFits}
+use Rattle.writing.specs.Writing.{writable, putAnswer, putLeaves, writeAnswer, writeLeaves}
+use Rattle.limits.specs.Limits.{runFits, halfFits, halfCount, statusFits}
+use Rattle.writing.specs.Bodies.{Writes, bodyOctets, bodyFits, halfOctets}
 use Rattle.message.specs.Tables.{headOf}
-use Rattle.writing.proofs.Tests.{and-left, and-right, half-count}
+use Rattle.limits.proofs.Tests.{and-left, and-right, half-count}
 
 -- A conjunct that the one before implies says nothing.
 and-implied : (a b : Bool) → (a ≡ true → b ≡ true) → a && b ≡ a
@@ -172,24 +171,39 @@ module _ (s : List ℕ) (f : Bool) (v : ℕ) (six : v ≤ 6) where
   fits-same (TerminationReject run) = cause-fits run
   fits-same (TerminationRequest r) = simp (le-leb v 6 six)
 
--- What a kind's writer meets, `write` meets, where the buffer is long enough and the transaction value is at most 6.
-pub writes-whole : (d s : List ℕ) (head : ℕ) (f : Bool) (v : ℕ) (m : Message) (r : Wrote) (e : List ℕ) → 255 ≤ length d → v ≤ 6
+-- What a kind's writer meets, `put` meets, where the transaction value is at most 6.
+pub puts-whole : (d s : List ℕ) (head : ℕ) (f : Bool) (v : ℕ) (m : Message) (r : Wrote) (e : List ℕ) → v ≤ 6
     → head ≡ headOf f v → Writes d (bodyOctets head (contentOf s m)) (bodyFits s m) r e
-    → (r ≡ writeAnswer d s f v m) × (e ≡ writeLeaves d s f v m)
-unfolding writeAnswer writeLeaves written bodyOctets
-writes-whole d s head f v m r e h k q p = (
-  p .answer
-      ∙ ap (λ (x : ℕ). cond (bodyFits s m) (Written (length (bodyOctets x (contentOf s m)))) OutOfRange) q
-      ∙ ap (λ (t : Bool). cond t (Written (length (written f v (contentOf s m)))) OutOfRange) (fits-same s f v k m)
-      ∙ sym (long (cond (writable s f v m) (Written (length (written f v (contentOf s m)))) OutOfRange) ShortBuffer),
-  p .after
-      ∙ ap (λ (x : ℕ). cond (bodyFits s m) (sets d 0 (bodyOctets x (contentOf s m))) d) q
-      ∙ ap (λ (t : Bool). cond t (sets d 0 (written f v (contentOf s m))) d) (fits-same s f v k m)
-      ∙ sym (long (cond (writable s f v m) (sets d 0 (written f v (contentOf s m))) d) d),
-)
-  where
-    long : {A : Type 0} (a b : A) → cond (ltb (length d) 255) b a ≡ a
-    long a b = simp (le-ltb _ _ h)
+    → (r ≡ putAnswer d s f v m) × (e ≡ putLeaves d s f v m)
+unfolding putAnswer putLeaves written bodyOctets
+puts-whole d s head f v m r e six q p =
+    let o : List ℕ = written f v (contentOf s m) in
+    let same : bodyOctets head (contentOf s m) ≡ o = ap (λ (x : ℕ). bodyOctets x (contentOf s m)) q in
+    let w : Writes d o (writable s f v m) r e = subst (λ (t : Bool). Writes d o t r e) (fits-same s f v six m) (subst (λ (x : List ℕ). Writes d x (bodyFits s m) r e) same p) in
+    (w .answer, w .after)
+
+-- In a buffer of 255 octets there is room for what can be written, so that `put` writes as `write` is to.
+module _ (d s : List ℕ) (f : Bool) (v : ℕ) (m : Message) (room : 255 ≤ length d) where
+  few-written : writable s f v m ≡ true → length (written f v (contentOf s m)) ≤ 251
+  unfolding writable fits
+  few-written e =
+      let fitting : leb v 6 && (rowsFit (table (contentOf s m)) && leb (length (written f v (contentOf s m))) 251) ≡ true = and-right (runsLie s m) _ e in
+      leb-true _ _ (and-right (rowsFit (table (contentOf s m))) _ (and-right (leb v 6) _ fitting))
+
+  same-written : (putAnswer d s f v m ≡ writeAnswer d s f v m) × (putLeaves d s f v m ≡ writeLeaves d s f v m)
+  unfolding putAnswer putLeaves writeAnswer writeLeaves
+  same-written = go (writable s f v m) refl
+    where
+      go : (t : Bool) → writable s f v m ≡ t → (putAnswer d s f v m ≡ writeAnswer d s f v m) × (putLeaves d s f v m ≡ writeLeaves d s f v m)
+      go false e = rw (e, le-ltb _ _ room) (refl, refl)
+      go true e =
+          let few : length (written f v (contentOf s m)) ≤ 251 = few-written e in
+          let k : length (written f v (contentOf s m)) ≤ length d = omega arith in
+          rw (e, le-ltb _ _ room, le-ltb _ _ k) (refl, refl)
+
+  pub written-put : (r : Wrote) (e : List ℕ) → (r ≡ putAnswer d s f v m) × (e ≡ putLeaves d s f v m)
+      → (r ≡ writeAnswer d s f v m) × (e ≡ writeLeaves d s f v m)
+  written-put r e p = (p .0 ∙ same-written .0, p .1 ∙ same-written .1)
 
 -- A transaction value over 6 fits no message.
 pub value-over : (s : List ℕ) (f : Bool) (v : ℕ) (m : Message) → 6 < v → writable s f v m ≡ false

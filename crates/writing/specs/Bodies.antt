@@ -1,16 +1,17 @@
 -- What each kind's writer is held to: the same octets and the same test as in `Writing`, with the first octet given and the tests as the code makes them.
-use Prim.Native.Nat.{ℕ, _+_}
+-- Nobody need believe this file: no public contract and no theorem of the promises goes by it, and `proofs/Fitting` shows that it comes to what `Writing` says. It
+-- stands here because the contracts of private functions cite it, and a contract sees definitions alone.
+use Prim.Native.Nat.{ℕ}
 use mathlib.Core.Path.{_≡_}
 use mathlib.Core.List.{List, [], _∷_}
 use mathlib.Core.Bool.{Bool, true, cond, _&&_}
 use lib.ListN.{length}
 use lib.Seq.{sets}
-use lib.Dec.{ltb, leb}
+use lib.Dec.{ltb}
 use Rattle.element.specs.declared.Run.{Run}
 use Rattle.message.specs.declared.Identity.{Identity}
 use Rattle.message.specs.declared.Identity.the-variants.{Absent as Anonymous, Present as Named}
 use Rattle.message.specs.declared.Half.{Half}
-use Rattle.message.specs.declared.Half.the-variants.{Absent, Present}
 use Rattle.message.specs.declared.Message.{Message}
 use Rattle.message.specs.declared.Message.the-variants.{
   Connect,
@@ -23,11 +24,11 @@ use Rattle.message.specs.declared.Message.the-variants.{
   TerminationReject,
   TerminationRequest,
 }
+use Rattle.limits.specs.Limits.{runFits, statusFits}
 use Rattle.message.specs.Content.{Content, runOctets}
-use Rattle.message.specs.Tables.{formatTV, typeOf, table, drawn, counted, octetsOf, elementFits}
+use Rattle.message.specs.Tables.{formatTV, typeOf, table, drawn, counted, octetsOf}
 use Rattle.writing.specs.declared.Wrote.{Wrote}
-use Rattle.writing.specs.declared.Wrote.the-variants.{Written, OutOfRange}
-use Rattle.writing.specs.Writing.{lies}
+use Rattle.writing.specs.declared.Wrote.the-variants.{Written, ShortBuffer, OutOfRange}
 
 -- The message's octets, behind a first octet.
 unfoldable pub bodyOctets : ℕ → Content → List ℕ
@@ -37,24 +38,9 @@ bodyOctets head content = head ∷ typeOf content ∷ drawn (table content)
 abbrev pub causeOctets : List ℕ → Run → List ℕ
 causeOctets s cause = counted (runOctets s cause)
 
--- A run of 1 to `most` octets within `s`.
-unfoldable pub runFits : List ℕ → Run → ℕ → Bool
-runFits s run most = leb 1 (run .count) && leb (run .count) most && lies s run
-
--- An optional half octet: as its row in the table has it.
-abbrev pub halfFits : Half → Bool
-halfFits half = elementFits (formatTV 0 half)
-
+-- An optional half octet as its row in the table has it.
 abbrev pub halfOctets : ℕ → Half → List ℕ
 halfOctets identifier half = octetsOf (formatTV identifier half)
-
-abbrev pub halfCount : Half → ℕ
-halfCount Absent = 0
-halfCount (Present value) = 1
-
-unfoldable pub statusFits : List ℕ → Run → Half → Half → Bool
-statusFits s cause state attributes =
-    runFits s cause 247 && halfFits state && halfFits attributes && leb (3 + cause .count + halfCount state + halfCount attributes) 251
 
 -- The tests of a message's fields.
 abbrev pub bodyFits : List ℕ → Message → Bool
@@ -69,7 +55,7 @@ bodyFits s (Termination cause) = runFits s cause 247
 bodyFits s (TerminationReject cause) = runFits s cause 247
 bodyFits s (TerminationRequest reference) = true
 
--- Writing `octets` over the start of `d`, if they fit, answers `r` and leaves `e`.
+-- Writing `octets` over the start of `d`, if they fit and there is room, answers `r` and leaves `e`.
 pub record Writes (d octets : List ℕ) (fits : Bool) (r : Wrote) (e : List ℕ) : Type 0 where
-  pub answer : r ≡ cond fits (Written (length octets)) OutOfRange
-  pub after : e ≡ cond fits (sets d 0 octets) d
+  pub answer : r ≡ cond fits (cond (ltb (length d) (length octets)) ShortBuffer (Written (length octets))) OutOfRange
+  pub after : e ≡ cond fits (cond (ltb (length d) (length octets)) d (sets d 0 octets)) d

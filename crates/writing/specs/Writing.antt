@@ -1,48 +1,17 @@
 -- What writing a message answers, and what it leaves in the lent buffer.
 -- Document 01, "Answer numbers": 5 for a lent buffer under 255 octets, then 4 for a field beyond the width or length clauses 8 and 9 draw, transaction value 7
 -- or a message over 251 octets, else 0 and writes it. A run that does not lie within the lent octets is a field out of range.
-use Prim.Native.Nat.{ℕ, _+_}
+use Prim.Native.Nat.{ℕ}
 use mathlib.Core.List.{List}
-use mathlib.Core.Bool.{Bool, true, cond, _&&_}
+use mathlib.Core.Bool.{Bool, cond, _&&_}
 use lib.ListN.{length}
 use lib.Seq.{sets}
-use lib.Dec.{ltb, leb}
-use Rattle.element.specs.declared.Run.{Run}
-use Rattle.message.specs.declared.Identity.{Identity}
-use Rattle.message.specs.declared.Identity.the-variants.{Absent, Present}
+use lib.Dec.{ltb}
 use Rattle.message.specs.declared.Message.{Message}
-use Rattle.message.specs.declared.Message.the-variants.{
-  Connect,
-  GetStatus,
-  ImmediateSetup,
-  SetParameter,
-  Setup,
-  Status,
-  Termination,
-  TerminationReject,
-  TerminationRequest,
-}
-use Rattle.message.specs.Content.{contentOf}
+use Rattle.message.specs.Content.{contentOf, runsLie}
 use Rattle.message.specs.Tables.{written, fits}
 use Rattle.writing.specs.declared.Wrote.{Wrote}
 use Rattle.writing.specs.declared.Wrote.the-variants.{Written, ShortBuffer, OutOfRange}
-
--- The run lies within `s`.
-unfoldable pub lies : List ℕ → Run → Bool
-lies s run = leb (run .start + run .count) (length s)
-
--- Each run of the message lies within `s`.
-abbrev pub runsLie : List ℕ → Message → Bool
-runsLie s (Connect reference originator) = true
-runsLie s (GetStatus Absent) = true
-runsLie s (GetStatus (Present identity)) = lies s identity
-runsLie s (ImmediateSetup key classmark identity reference) = lies s identity
-runsLie s (SetParameter attributes) = true
-runsLie s (Setup reference) = true
-runsLie s (Status cause state attributes) = lies s cause
-runsLie s (Termination cause) = lies s cause
-runsLie s (TerminationReject cause) = lies s cause
-runsLie s (TerminationRequest reference) = true
 
 -- The message can be written.
 unfoldable pub writable : List ℕ → Bool → ℕ → Message → Bool
@@ -52,7 +21,19 @@ writable s flag value message = runsLie s message && fits flag value (contentOf 
 abbrev pub octetsWritten : List ℕ → Bool → ℕ → Message → List ℕ
 octetsWritten s flag value message = written flag value (contentOf s message)
 
--- The answer, where the buffer holds `d` and the runs lie in `s`.
+-- Putting a message into a part of a buffer that holds `d`, where its runs lie in `s`: what can't be written is out of range, then the part is short of room,
+-- else the message's octets stand over the part's start, and each other octet is as it was.
+unfoldable pub putAnswer : List ℕ → List ℕ → Bool → ℕ → Message → Wrote
+putAnswer d s flag value message =
+    cond (writable s flag value message)
+    (cond (ltb (length d) (length (octetsWritten s flag value message))) ShortBuffer (Written (length (octetsWritten s flag value message)))) OutOfRange
+
+unfoldable pub putLeaves : List ℕ → List ℕ → Bool → ℕ → Message → List ℕ
+putLeaves d s flag value message =
+    cond (writable s flag value message)
+    (cond (ltb (length d) (length (octetsWritten s flag value message))) d (sets d 0 (octetsWritten s flag value message))) d
+
+-- Writing one: the answer, where the buffer holds `d` and the runs lie in `s`.
 unfoldable pub writeAnswer : List ℕ → List ℕ → Bool → ℕ → Message → Wrote
 writeAnswer d s flag value message =
     cond (ltb (length d) 255) ShortBuffer

@@ -1,4 +1,5 @@
-// What stands behind a message's first octet, written kind by kind. Each answers for its own fields, and writes nothing where one is out of range.
+// What stands behind a message's first octet, written kind by kind. Each answers for its own fields and its own room, and writes nothing where one is out of
+// range or the buffer is short.
 ghost use mathlib.Core.Path.{_≡_};
 ghost use mathlib.Core.Bool.{true};
 ghost use mathlib.Core.List.{_∷_, []};
@@ -8,66 +9,21 @@ ghost use lib.Seq.{sets};
 ghost use Rattle.element.specs.declared.Run.{Run};
 ghost use Rattle.message.specs.declared.Message.{Message};
 ghost use Rattle.message.specs.Content.{contentOf, referenceOctets};
-ghost use Rattle.writing.specs.Bodies.{
-  Writes,
-  causeOctets,
-  bodyOctets,
-  bodyFits,
-  runFits,
-  halfFits,
-  halfCount,
-  halfOctets,
-  statusFits,
-};
+ghost use Rattle.limits.specs.Limits.{runFits, halfFits, halfCount};
+ghost use Rattle.writing.specs.Bodies.{Writes, causeOctets, bodyOctets, bodyFits, halfOctets};
 use crate::Wrote;
+use codes::message_type;
 use element::Run;
+use limits::cause_fits;
+use limits::half_count;
+use limits::identity_fits;
+use limits::status_fits;
 use message::Classmark;
 use message::Half;
 use message::Identity;
 use message::Message;
 use message::Reference;
 use octets::copy_to;
-
-// Whether a run of 1 to `most` octets lies within `source`.
-fn run_fits(source: &[u8], run: Run, most: usize) -> bool
-    ensures { λ r. ⌜ r ≡ runFits (now (source .entry)) run most ⌝ }
-{
-    let start = run.start;
-    let count = run.count;
-    if count < 1 {
-        return false;
-    }
-    if most < count {
-        return false;
-    }
-    if source.len() < start {
-        return false;
-    }
-    if source.len() - start < count {
-        return false;
-    }
-    true
-}
-
-// Whether a half octet holds the value.
-fn half_fits(half: Half) -> bool
-    ensures { λ r. ⌜ r ≡ halfFits half ⌝ }
-{
-    match half {
-        Half::Absent => true,
-        Half::Present(value) => value < 16,
-    }
-}
-
-// How many octets an optional half octet takes.
-fn half_count(half: Half) -> usize
-    ensures { λ r. ⌜ r ≡ halfCount half ⌝ }
-{
-    match half {
-        Half::Absent => 0,
-        Half::Present(_) => 1,
-    }
-}
 
 // The four octets of a reference, to a place.
 fn put_reference(buffer: &mut [u8], at: usize, reference: Reference)
@@ -82,7 +38,7 @@ fn put_reference(buffer: &mut [u8], at: usize, reference: Reference)
 
 // An optional half octet behind its identifier, to a place; answers the place behind it.
 fn put_half(buffer: &mut [u8], at: usize, identifier: u8, half: Half) -> usize
-    requires { ⌜ (at < length (now buffer)) × (identifier < 16) × (halfFits half ≡ true) ⌝ }
+    requires { ⌜ (at + halfCount half ≤ length (now buffer)) × (identifier < 16) × (halfFits half ≡ true) ⌝ }
     ensures { λ r. ⌜ (r ≡ at + halfCount half) × (now (buffer .exit) ≡ sets (now (buffer .entry)) at (halfOctets identifier half)) ⌝ }
 {
     match half {
@@ -96,14 +52,16 @@ fn put_half(buffer: &mut [u8], at: usize, identifier: u8, half: Half) -> usize
 
 // Table 8.1.
 fn write_connect(buffer: &mut [u8], head: u8, reference: Reference, originator: u8) -> Wrote
-    requires { ⌜ 255 ≤ length (now buffer) ⌝ }
     ensures { λ r. ⌜ Writes (now (buffer .entry)) (bodyOctets head (contentOf [] (Message.Connect reference originator))) (bodyFits [] (Message.Connect reference originator)) r (now (buffer .exit)) ⌝ }
 {
     if 2 <= originator {
         return Wrote::OutOfRange;
     }
+    if buffer.len() < 7 {
+        return Wrote::ShortBuffer;
+    }
     buffer[0] = head;
-    buffer[1] = 0x33;
+    buffer[1] = message_type::CONNECT;
     buffer[2] = reference.first;
     buffer[3] = reference.second;
     buffer[4] = reference.third;
@@ -114,13 +72,15 @@ fn write_connect(buffer: &mut [u8], head: u8, reference: Reference, originator: 
 
 // Table 8.2.
 fn write_get_status(buffer: &mut [u8], source: &[u8], head: u8, identity: Identity) -> Wrote
-    requires { ⌜ 255 ≤ length (now buffer) ⌝ }
     ensures { λ r. ⌜ Writes (now (buffer .entry)) (bodyOctets head (contentOf (now (source .entry)) (Message.GetStatus identity))) (bodyFits (now (source .entry)) (Message.GetStatus identity)) r (now (buffer .exit)) ⌝ }
 {
     match identity {
         Identity::Absent => {
+            if buffer.len() < 2 {
+                return Wrote::ShortBuffer;
+            }
             buffer[0] = head;
-            buffer[1] = 0x39;
+            buffer[1] = message_type::GET_STATUS;
             Wrote::Written(2)
         }
         Identity::Present(run) => write_identified(buffer, source, head, run),
@@ -129,16 +89,18 @@ fn write_get_status(buffer: &mut [u8], source: &[u8], head: u8, identity: Identi
 
 // Table 8.2 with a mobile identity.
 fn write_identified(buffer: &mut [u8], source: &[u8], head: u8, identity: Run) -> Wrote
-    requires { ⌜ 255 ≤ length (now buffer) ⌝ }
     ensures { λ r. ⌜ Writes (now (buffer .entry)) (bodyOctets head (contentOf (now (source .entry)) (Message.GetStatus (Identity.Present identity)))) (bodyFits (now (source .entry)) (Message.GetStatus (Identity.Present identity))) r (now (buffer .exit)) ⌝ }
 {
-    if !run_fits(source, identity, 8) {
+    if !identity_fits(source, identity) {
         return Wrote::OutOfRange;
     }
     let start = identity.start;
     let count = identity.count;
+    if buffer.len() < 4 + count {
+        return Wrote::ShortBuffer;
+    }
     buffer[0] = head;
-    buffer[1] = 0x39;
+    buffer[1] = message_type::GET_STATUS;
     buffer[2] = 0x17;
     buffer[3] = count as u8;
     copy_to(buffer, 4, source, start, count);
@@ -155,19 +117,21 @@ fn write_immediate_setup(
     identity: Run,
     reference: Reference,
 ) -> Wrote
-    requires { ⌜ 255 ≤ length (now buffer) ⌝ }
     ensures { λ r. ⌜ Writes (now (buffer .entry)) (bodyOctets head (contentOf (now (source .entry)) (Message.ImmediateSetup key classmark identity reference))) (bodyFits (now (source .entry)) (Message.ImmediateSetup key classmark identity reference)) r (now (buffer .exit)) ⌝ }
 {
     if 8 <= key {
         return Wrote::OutOfRange;
     }
-    if !run_fits(source, identity, 8) {
+    if !identity_fits(source, identity) {
         return Wrote::OutOfRange;
     }
     let start = identity.start;
     let count = identity.count;
+    if buffer.len() < 12 + count {
+        return Wrote::ShortBuffer;
+    }
     buffer[0] = head;
-    buffer[1] = 0x31;
+    buffer[1] = message_type::IMMEDIATE_SETUP;
     buffer[2] = 16 * key;
     buffer[3] = 3;
     buffer[4] = classmark.first;
@@ -181,23 +145,27 @@ fn write_immediate_setup(
 
 // Table 8.4.
 fn write_set_parameter(buffer: &mut [u8], head: u8, attributes: u8) -> Wrote
-    requires { ⌜ 255 ≤ length (now buffer) ⌝ }
     ensures { λ r. ⌜ Writes (now (buffer .entry)) (bodyOctets head (contentOf [] (Message.SetParameter attributes))) (bodyFits [] (Message.SetParameter attributes)) r (now (buffer .exit)) ⌝ }
 {
     if 16 <= attributes {
         return Wrote::OutOfRange;
     }
+    if buffer.len() < 3 {
+        return Wrote::ShortBuffer;
+    }
     buffer[0] = head;
-    buffer[1] = 0x3a;
+    buffer[1] = message_type::SET_PARAMETER;
     buffer[2] = attributes;
     Wrote::Written(3)
 }
 
 // Tables 8.5 and 8.9: a type and a reference.
 fn write_reference(buffer: &mut [u8], head: u8, kind: u8, reference: Reference) -> Wrote
-    requires { ⌜ 255 ≤ length (now buffer) ⌝ }
     ensures { λ r. ⌜ Writes (now (buffer .entry)) (head ∷ kind ∷ referenceOctets reference) true r (now (buffer .exit)) ⌝ }
 {
+    if buffer.len() < 6 {
+        return Wrote::ShortBuffer;
+    }
     buffer[0] = head;
     buffer[1] = kind;
     buffer[2] = reference.first;
@@ -209,14 +177,16 @@ fn write_reference(buffer: &mut [u8], head: u8, kind: u8, reference: Reference) 
 
 // Tables 8.7 and 8.8: a type and a cause.
 fn write_cause(buffer: &mut [u8], source: &[u8], head: u8, kind: u8, cause: Run) -> Wrote
-    requires { ⌜ 255 ≤ length (now buffer) ⌝ }
     ensures { λ r. ⌜ Writes (now (buffer .entry)) (head ∷ kind ∷ causeOctets (now (source .entry)) cause) (runFits (now (source .entry)) cause 247) r (now (buffer .exit)) ⌝ }
 {
-    if !run_fits(source, cause, 247) {
+    if !cause_fits(source, cause) {
         return Wrote::OutOfRange;
     }
     let start = cause.start;
     let count = cause.count;
+    if buffer.len() < 3 + count {
+        return Wrote::ShortBuffer;
+    }
     buffer[0] = head;
     buffer[1] = kind;
     buffer[2] = count as u8;
@@ -224,21 +194,12 @@ fn write_cause(buffer: &mut [u8], source: &[u8], head: u8, kind: u8, cause: Run)
     Wrote::Written(3 + count)
 }
 
-// Whether a STATUS fits: its fields, and at most 251 octets in all.
-fn status_fits(source: &[u8], cause: Run, state: Half, attributes: Half) -> bool
-    ensures { λ r. ⌜ r ≡ statusFits (now (source .entry)) cause state attributes ⌝ }
+// How many octets a STATUS takes, with a cause of `count`.
+fn status_count(count: usize, state: Half, attributes: Half) -> usize
+    requires { ⌜ count ≤ 247 ⌝ }
+    ensures { λ r. ⌜ r ≡ 3 + count + halfCount state + halfCount attributes ⌝ }
 {
-    if !run_fits(source, cause, 247) {
-        return false;
-    }
-    if !half_fits(state) {
-        return false;
-    }
-    if !half_fits(attributes) {
-        return false;
-    }
-    let count = cause.count;
-    3 + count + half_count(state) + half_count(attributes) <= 251
+    3 + count + half_count(state) + half_count(attributes)
 }
 
 // Table 8.6.
@@ -250,7 +211,6 @@ fn write_status(
     state: Half,
     attributes: Half,
 ) -> Wrote
-    requires { ⌜ 255 ≤ length (now buffer) ⌝ }
     ensures { λ r. ⌜ Writes (now (buffer .entry)) (bodyOctets head (contentOf (now (source .entry)) (Message.Status cause state attributes))) (bodyFits (now (source .entry)) (Message.Status cause state attributes)) r (now (buffer .exit)) ⌝ }
 {
     if !status_fits(source, cause, state, attributes) {
@@ -258,8 +218,11 @@ fn write_status(
     }
     let start = cause.start;
     let count = cause.count;
+    if buffer.len() < status_count(count, state, attributes) {
+        return Wrote::ShortBuffer;
+    }
     buffer[0] = head;
-    buffer[1] = 0x38;
+    buffer[1] = message_type::STATUS;
     buffer[2] = count as u8;
     copy_to(buffer, 3, source, start, count);
     let place = put_half(buffer, 3 + count, 0xa, state);
@@ -269,7 +232,6 @@ fn write_status(
 
 // The message behind its first octet, which is `head`.
 pub(crate) fn write_body(buffer: &mut [u8], source: &[u8], head: u8, message: Message) -> Wrote
-    requires { ⌜ 255 ≤ length (now buffer) ⌝ }
     ensures { λ r. ⌜ Writes (now (buffer .entry)) (bodyOctets head (contentOf (now (source .entry)) message)) (bodyFits (now (source .entry)) message) r (now (buffer .exit)) ⌝ }
 {
     match message {
@@ -285,14 +247,36 @@ pub(crate) fn write_body(buffer: &mut [u8], source: &[u8], head: u8, message: Me
             reference,
         } => write_immediate_setup(buffer, source, head, key, classmark, identity, reference),
         Message::SetParameter { attributes } => write_set_parameter(buffer, head, attributes),
-        Message::Setup { reference } => write_reference(buffer, head, 0x32, reference),
+        Message::Setup { reference } => write_reference(
+            buffer,
+            head,
+            message_type::SETUP,
+            reference,
+        ),
         Message::Status {
             cause,
             state,
             attributes,
         } => write_status(buffer, source, head, cause, state, attributes),
-        Message::Termination { cause } => write_cause(buffer, source, head, 0x34, cause),
-        Message::TerminationReject { cause } => write_cause(buffer, source, head, 0x36, cause),
-        Message::TerminationRequest { reference } => write_reference(buffer, head, 0x35, reference),
+        Message::Termination { cause } => write_cause(
+            buffer,
+            source,
+            head,
+            message_type::TERMINATION,
+            cause,
+        ),
+        Message::TerminationReject { cause } => write_cause(
+            buffer,
+            source,
+            head,
+            message_type::TERMINATION_REJECT,
+            cause,
+        ),
+        Message::TerminationRequest { reference } => write_reference(
+            buffer,
+            head,
+            message_type::TERMINATION_REQUEST,
+            reference,
+        ),
     }
 }

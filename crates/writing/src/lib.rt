@@ -4,22 +4,22 @@ mod kinds;
 ghost use mathlib.Core.Path.{_≡_};
 ghost use Prim.Native.Nat.{_≤_};
 ghost use Rattle.message.specs.Tables.{headOf};
-ghost use Rattle.writing.specs.Writing.{writeAnswer, writeLeaves};
+ghost use Rattle.writing.specs.Writing.{putAnswer, putLeaves, writeAnswer, writeLeaves};
 use message::Message;
 
 // What writing comes to; the number that document 01 gives each is `writtenNumber`.
 pub enum Wrote {
     // Written, with so many octets.
     Written(usize),
-    // The lent buffer has under 255 octets.
+    // The lent buffer has under 255 octets, or, where a message is put behind another, no room for it.
     ShortBuffer,
     // A field beyond its width or length, a run outside the lent octets, transaction value 7 or more, or over 251 octets.
     OutOfRange,
 }
 
-// The first octet of a message.
+// The first octet of a message. The transaction value has three bits.
 fn head_of(flag: bool, value: u8) -> u8
-    requires { ⌜ value ≤ 6 ⌝ }
+    requires { ⌜ value ≤ 7 ⌝ }
     ensures { λ r. ⌜ r ≡ headOf flag value ⌝ }
 {
     if flag {
@@ -28,7 +28,19 @@ fn head_of(flag: bool, value: u8) -> u8
     1 + 16 * value
 }
 
-// Writes the message over the start of `buffer`. Its runs lie in `source`.
+// Puts the message over the start of `part`, which needs room for the message and no more: so a second message is put behind a first. Its runs lie in `source`.
+pub fn put(part: &mut [u8], source: &[u8], flag: bool, value: u8, message: Message) -> Wrote
+    ensures { λ r. ⌜ r ≡ putAnswer (now (part .entry)) (now (source .entry)) flag value message ⌝ }
+    ensures { λ _. ⌜ now (part .exit) ≡ putLeaves (now (part .entry)) (now (source .entry)) flag value message ⌝ }
+{
+    if 6 < value {
+        return Wrote::OutOfRange;
+    }
+    let head = head_of(flag, value);
+    kinds::write_body(part, source, head, message)
+}
+
+// Writes the message over the start of `buffer`, which has 255 octets at least. Its runs lie in `source`.
 pub fn write(buffer: &mut [u8], source: &[u8], flag: bool, value: u8, message: Message) -> Wrote
     ensures { λ r. ⌜ r ≡ writeAnswer (now (buffer .entry)) (now (source .entry)) flag value message ⌝ }
     ensures { λ _. ⌜ now (buffer .exit) ≡ writeLeaves (now (buffer .entry)) (now (source .entry)) flag value message ⌝ }
@@ -36,9 +48,5 @@ pub fn write(buffer: &mut [u8], source: &[u8], flag: bool, value: u8, message: M
     if buffer.len() < 255 {
         return Wrote::ShortBuffer;
     }
-    if 6 < value {
-        return Wrote::OutOfRange;
-    }
-    let head = head_of(flag, value);
-    kinds::write_body(buffer, source, head, message)
+    put(buffer, source, flag, value, message)
 }

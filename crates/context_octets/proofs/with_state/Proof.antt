@@ -4,6 +4,12 @@ use Rattle.context_octets.specs.Octets.{withState}
 use Rattle.context_octets.proofs.with_state.Statement.{statement}
 use Rattle.context_octets.proofs.with_state.Tie as tie
 
+returns : tie.Need-returns
+unfolding withState
+returns c =
+    let timers = c .before .before .before .before .before in
+    rw (← timers .before .before .parameters-at .ensures, ← timers .timers-at .ensures)
+
 pub with-state-spec : {M : Type 1} → statement M
 unfolding withState
 with-state-spec =
@@ -18,4 +24,4 @@ with-state-spec =
     (λ c. search needs)
     (λ c. search needs)
     (λ c. search needs)
-    (λ c. rw (← c .before .before .before .before .before .before .before .parameters-at .ensures, ← c .before .before .before .before .before .timers-at .ensures)))
+    returns)

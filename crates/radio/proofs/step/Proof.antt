@@ -5,13 +5,32 @@ use Rattle.radio.proofs.Reacting.{is-refused, is-taken}
 use Rattle.radio.proofs.step.Statement.{statement}
 use Rattle.radio.proofs.step.Tie as tie
 
+refusal-requires : tie.Need-refusal-requires
+refusal-requires c κs = search needs
+
+refused-requires : tie.Need-refused-requires
+refused-requires c κs = search needs
+
+returns : tie.Need-returns
+returns c =
+    let tested = c .before .before in
+    let start = tested .before .before .before .before in
+    let p = is-refused (start .args .own) (start .args .identity .now) (start .args .reply .now) (start .args .context) (start .args .happened) (start .args .octets .now) _ (tested .refusal .ensures) (c .before .if1 .taken) in
+    (c .refused .ensures ∙ p .0, p .1)
+
+take-requires : tie.Need-take-requires
+take-requires c κs = search needs
+
+same-length : tie.Need-same-length
+same-length c = search needs
+
+returns-2 : tie.Need-returns-2
+returns-2 c =
+    let took = c .before .before in
+    let passed = took .before .before in
+    let tested = passed .before in
+    let start = tested .before .before .before .before in
+    is-taken (start .args .own) (start .args .identity .now) (start .args .reply .now) (start .args .context) (start .args .happened) (start .args .octets .now) _ (tested .refusal .ensures) (passed .if1 .left) _ _ (took .take .ensures)
+
 pub step-spec : {M : Type 1} → statement M
-step-spec =
-    tie.close
-    (tie.spec
-    (λ c κs. search needs)
-    (λ c κs. search needs)
-    (λ c. let p = is-refused (c .before .before .before .before .before .before .args .own) (c .before .before .before .before .before .before .args .identity .now) (c .before .before .before .before .before .before .args .reply .now) (c .before .before .before .before .before .before .args .context) (c .before .before .before .before .before .before .args .happened) (c .before .before .before .before .before .before .args .octets .now) _ (c .before .before .refusal .ensures) (c .before .if1 .taken) in (c .refused .ensures ∙ p .0, p .1))
-    (λ c κs. search needs)
-    (λ c. search needs)
-    (λ c. is-taken (c .before .before .before .before .before .before .before .before .before .args .own) (c .before .before .before .before .before .before .before .before .before .args .identity .now) (c .before .before .before .before .before .before .before .before .before .args .reply .now) (c .before .before .before .before .before .before .before .before .before .args .context) (c .before .before .before .before .before .before .before .before .before .args .happened) (c .before .before .before .before .before .before .before .before .before .args .octets .now) _ (c .before .before .before .before .before .refusal .ensures) (c .before .before .before .before .if1 .left) _ _ (c .before .before .take .ensures)))
+step-spec = tie.close (tie.spec refusal-requires refused-requires returns take-requires same-length returns-2)

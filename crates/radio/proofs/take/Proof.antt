@@ -4,11 +4,21 @@ use Rattle.radio.proofs.Reacting.{takes}
 use Rattle.radio.proofs.take.Statement.{statement}
 use Rattle.radio.proofs.take.Tie as tie
 
+react-requires : tie.Need-react-requires
+react-requires c κs = search needs
+
+put-requires : tie.Need-put-requires
+put-requires c κs = search needs
+
+same-length : tie.Need-same-length
+same-length c = search needs
+
+returns : tie.Need-returns
+returns c =
+    let wrote = c .before .before in
+    let reacts = wrote .before .before .before in
+    let start = reacts .before .before .before .before in
+    takes (start .args .own) (start .args .identity .now) (start .args .reply .now) (start .args .context) (start .args .happened) (start .args .octets .now) _ (reacts .react .ensures) _ _ (wrote .put .ensures)
+
 pub take-spec : {M : Type 1} → statement M
-take-spec =
-    tie.close
-    (tie.spec
-    (λ c κs. search needs)
-    (λ c κs. search needs)
-    (λ c. search needs)
-    (λ c. takes (c .before .before .before .before .before .before .before .before .before .args .own) (c .before .before .before .before .before .before .before .before .before .args .identity .now) (c .before .before .before .before .before .before .before .before .before .args .reply .now) (c .before .before .before .before .before .before .before .before .before .args .context) (c .before .before .before .before .before .before .before .before .before .args .happened) (c .before .before .before .before .before .before .before .before .before .args .octets .now) _ (c .before .before .before .before .before .react .ensures) _ _ (c .before .before .put .ensures)))
+take-spec = tie.close (tie.spec react-requires put-requires same-length returns)

@@ -14,4 +14,6 @@ is-same-spec =
     (λ c. search needs)
     (λ c. search needs)
     (λ c κs. search needs)
-    (λ c. same-part (c .before .before .before .before .before .args .octets .now) (c .before .before .before .before .before .args .identity .now) (c .before .before .before .before .before .args .run .start) (c .before .before .before .before .before .args .run .count) _ (c .same .ensures .0) (c .same .ensures .1)))
+    (λ c.
+    let start = c .before .before .before .before .before in
+    same-part (start .args .octets .now) (start .args .identity .now) (start .args .run .start) (start .args .run .count) _ (c .same .ensures .0) (c .same .ensures .1)))

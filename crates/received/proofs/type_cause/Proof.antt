@@ -13,4 +13,4 @@ type-cause-spec =
     (λ c. rw (le-leb _ _ (c .if1 .taken)))
     (λ c κs. search needs)
     (λ c κs. search needs)
-    (λ c. rw (lt-leb _ _ (c .before .before .if1 .left), c .cause-in .ensures, c .before .decide-heard .ensures)))
+    (λ c. rw (lt-leb _ _ (c .before .before .if1 .left), c .cause-in .ensures, c .before .decide .ensures)))

@@ -28,9 +28,10 @@ refused-requires c κs = search needs
 
 returns : tie.Need-returns Inv-loop μ-loop
 returns c =
-    let t = c .before .before .before .before in let l = t .loop in
+    let found = c .before .before in let turn = found .before in let l = turn .before .loop in
     c .refused .ensures
-    ∙ walk-cut (t .before .before .args .file .now) (l .at) (l .number) _ (l .seen) (c .before .before .before .loop-test .taken) (c .before .before .find .ensures .0) (c .before .if1 .taken)
+    ∙ walk-cut (turn .before .before .before .args .file .now) (l .at) (l .number) _ (l .seen) (turn .loop-test .taken) (found .find .ensures .0)
+    (c .before .if1 .taken)
     ∙ l .inv .2
 
 sub-with-line : tie.Need-sub-with-line Inv-loop μ-loop
@@ -50,10 +51,10 @@ refused-requires-2 c κs = search needs
 
 returns-2 : tie.Need-returns-2 Inv-loop μ-loop
 returns-2 c =
-    let t = c .before .before .before .before .before .before .before .before in let l = t .loop in
+    let past = c .before .before .before .before .before in let found = past .before in let turn = found .before in let l = turn .before .loop in
     c .refused2 .ensures
-    ∙ walk-stop (t .before .before .args .file .now) (l .at) (l .number) _ (l .seen) (c .before .before .before .before .before .before .before .loop-test .taken) (c .before .before .before .before .before .before .find .ensures .0)
-    (c .before .before .before .before .before .if1 .left) _ (c .before .before .before .with-line .ensures) (not-true _ (c .before .if2 .taken))
+    ∙ walk-stop (turn .before .before .before .args .file .now) (l .at) (l .number) _ (l .seen) (turn .loop-test .taken) (found .find .ensures .0)
+    (past .if1 .left) _ (c .before .before .before .with-line .ensures) (not-true _ (c .before .if2 .taken))
     ∙ l .inv .2
 
 add-at : tie.Need-add-at Inv-loop μ-loop
@@ -67,11 +68,11 @@ loop-less c = omega (arith, c .before .before .before .before .before .before .f
 
 loop-again : tie.Need-loop-again Inv-loop μ-loop
 loop-again c =
-    let t = c .before .before .before .before .before .before .before .before in let l = t .loop in (
+    let past = c .before .before .before .before .before in let found = past .before in let turn = found .before in let l = turn .before .loop in (
       omega arith,
-      omega (arith, c .before .before .before .before .before .before .find .ensures .0),
-      walk-on (t .before .before .args .file .now) (l .at) (l .number) _ (l .seen) (c .before .before .before .before .before .before .before .loop-test .taken) (c .before .before .before .before .before .before .find .ensures .0)
-          (c .before .before .before .before .before .if1 .left) _ (c .before .before .before .with-line .ensures) (not-false _ (c .before .if2 .left))
+      omega (arith, found .find .ensures .0),
+      walk-on (turn .before .before .before .args .file .now) (l .at) (l .number) _ (l .seen) (turn .loop-test .taken) (found .find .ensures .0)
+          (past .if1 .left) _ (c .before .before .before .with-line .ensures) (not-false _ (c .before .if2 .left))
           ∙ l .inv .2,
     )
 

@@ -1,8 +1,8 @@
--- `write` meets its contract: the two tests in order, then the kind's writer.
+-- `write` meets its contract: the test of the buffer, then `put`, for which such a buffer has room.
 use borrow.Author.Needs.{needs}
-use borrow.Author.Tests.{lt-ltb, le-ltb}
+use borrow.Author.Tests.{lt-ltb}
 use Rattle.writing.specs.Writing.{writeAnswer, writeLeaves}
-use Rattle.writing.proofs.Fitting.{value-over, writes-whole}
+use Rattle.writing.proofs.Fitting.{written-put}
 use Rattle.writing.proofs.write.Statement.{statement}
 use Rattle.writing.proofs.write.Tie as tie
 
@@ -12,11 +12,9 @@ write-spec =
     tie.close
     (tie.spec
     (λ c. (simp (lt-ltb _ _ (c .if1 .taken)), simp (lt-ltb _ _ (c .if1 .taken))))
-    (λ c. (
-      simp (le-ltb _ _ (c .before .if1 .left), value-over (c .before .before .before .before .args .source .now) (c .before .before .before .before .args .flag) (c .before .before .before .before .args .value) (c .before .before .before .before .args .message) (c .if2 .taken)),
-      simp (le-ltb _ _ (c .before .if1 .left), value-over (c .before .before .before .before .args .source .now) (c .before .before .before .before .args .flag) (c .before .before .before .before .args .value) (c .before .before .before .before .args .message) (c .if2 .taken)),
-    ))
-    (λ c κs. search needs)
     (λ c κs. search needs)
     (λ c. search needs)
-    (λ c. writes-whole _ (c .before .before .before .before .before .before .before .before .before .args .source .now) _ (c .before .before .before .before .before .before .before .before .before .args .flag) (c .before .before .before .before .before .before .before .before .before .args .value) (c .before .before .before .before .before .before .before .before .before .args .message) _ _ (c .before .before .before .before .before .before .if1 .left) (c .before .before .before .before .before .if2 .left) (c .before .before .before .before .head-of .ensures) (c .before .before .write-body .ensures)))
+    (λ c.
+    let first = c .before .before .before .before in
+    let a = first .before .before .before .args in
+    written-put (a .buffer .now) (a .source .now) (a .flag) (a .value) (a .message) (first .if1 .left) _ _ (c .before .before .put .ensures)))

@@ -5,27 +5,35 @@ use mathlib.Core.Path.{_≡_, sym, _∙_}
 use mathlib.Core.Bool.{true}
 use native.Mathlib.Omega.{arith}
 use lib.ListN.{length-set}
-use Rattle.writing.specs.Bodies.{runFits}
-use Rattle.writing.proofs.Tests.{good}
-use Rattle.writing.proofs.Bodies.{refused, cause-done}
+use Rattle.limits.specs.Limits.{runFits}
+use Rattle.limits.proofs.Tests.{good}
+use Rattle.writing.proofs.Bodies.{refused, cause-done, no-room, cause-count}
 use Rattle.writing.proofs.kinds.write_cause.Statement.{statement}
 use Rattle.writing.proofs.kinds.write_cause.Tie as tie
 
--- Past the test the cause fits.
-run-is : (c : tie.Else1) → runFits (c .before .before .before .before .args .source .now) (c .before .before .before .before .args .cause) 247 ≡ true
-run-is c = sym (c .before .run-fits .ensures) ∙ not-false _ (c .if1 .left)
+-- Past the first test the cause fits.
+run-is : (c : tie.Else1) → let a = c .before .before .before .before .args in runFits (a .source .now) (a .cause) 247 ≡ true
+run-is c = sym (c .before .cause-fits .ensures) ∙ not-false _ (c .if1 .left)
+
+-- The tests, from where the copy is done.
+abbrev tested : tie.After-copy-to → tie.Else2
+tested c = c .before .before
 
 pub write-cause-spec : {M : Type 1} → statement M
 write-cause-spec =
     tie.close
     (tie.spec
     (λ c κs. search needs)
-    (λ c. refused _ _ _ (sym (c .before .run-fits .ensures) ∙ not-true _ (c .if1 .taken)))
+    (λ c. refused _ _ _ (sym (c .before .cause-fits .ensures) ∙ not-true _ (c .if1 .taken)))
+    (λ c. omega (arith, good _ _ _ (run-is c)))
+    (λ c.
+    let a = c .before .before .before .before .before .args in
+    no-room _ _ _ _ (run-is (c .before)) (cause-count _ (a .head) _ (a .kind) (run-is (c .before))) (c .if2 .taken))
     (λ c. search needs)
     (λ c. simp length-set (omega arith))
-    (λ c. omega (arith, good _ _ _ (run-is (c))))
+    (λ c. omega (arith, good _ _ _ (run-is (c .before))))
     (λ c. simp length-set (omega arith))
-    (λ c κs. simp length-set (omega (arith, good _ _ _ (run-is (c .before)))))
-    (λ c. omega (arith, good _ _ _ (run-is (c .before .before .before .before))))
+    (λ c κs. simp length-set (omega (arith, good _ _ _ (run-is (c .before .before)))))
+    (λ c. omega (arith, good _ _ _ (run-is (tested (c .before .before) .before))))
     (λ c. c .before .before .copy-to .kept .0 ∙ simp length-set)
-    (λ c. cause-done _ _ _ _ _ _ (run-is (c .before .before .before .before)) (c .before .before .copy-to .ensures)))
+    (λ c. let t = tested (c .before .before) in cause-done _ _ _ _ _ _ (run-is (t .before)) (t .if2 .left) (c .before .before .copy-to .ensures)))

@@ -1,10 +1,10 @@
 -- `write_connect` meets its contract: out of range, or the table's octets.
 use borrow.Author.Needs.{needs}
-use borrow.Author.Tests.{le-ltb}
+use borrow.Author.Tests.{le-ltb, lt-ltb}
 use mathlib.Core.Path.{refl}
 use native.Mathlib.Omega.{arith}
 use lib.ListN.{length-set}
-use Rattle.writing.proofs.Bodies.{refused, connect-done}
+use Rattle.writing.proofs.Bodies.{refused, connect-done, no-room, connect-count}
 use Rattle.writing.proofs.kinds.write_connect.Statement.{statement}
 use Rattle.writing.proofs.kinds.write_connect.Tie as tie
 
@@ -13,6 +13,7 @@ write-connect-spec =
     tie.close
     (tie.spec
     (λ c. refused _ _ _ (le-ltb _ _ (c .if1 .taken)))
+    (λ c. no-room _ _ _ _ (lt-ltb _ _ (c .before .if1 .left)) (connect-count _ _ _) (c .if2 .taken))
     (λ c. search needs)
     (λ c. simp length-set (omega arith))
     (λ c. simp length-set (omega arith))
@@ -21,4 +22,4 @@ write-connect-spec =
     (λ c. simp length-set (omega arith))
     (λ c. simp length-set (omega arith))
     (λ c. simp length-set)
-    (λ c. connect-done (c .before .args .buffer .now) (c .before .args .head) _ (c .before .args .reference) (c .before .args .originator) (c .if1 .left) refl))
+    (λ c. let a = c .before .before .args in connect-done (a .buffer .now) (a .head) _ (a .reference) (a .originator) (c .before .if1 .left) (c .if2 .left) refl))

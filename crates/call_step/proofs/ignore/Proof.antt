@@ -1,0 +1,12 @@
+-- `ignore` meets its contract: it is the definition's record.
+use mathlib.Core.Path.{refl}
+use Rattle.call.specs.Step.{ignored}
+use Rattle.call_step.proofs.ignore.Statement.{statement}
+use Rattle.call_step.proofs.ignore.Tie as tie
+
+pub ignore-spec : {M : Type 1} → statement M
+unfolding ignored
+ignore-spec =
+    tie.close
+    (tie.spec
+    (λ c. refl))

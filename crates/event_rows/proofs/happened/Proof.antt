@@ -1,0 +1,34 @@
+-- `happened` meets its contract, state by state.
+use borrow.Author.Needs.{needs}
+use Rattle.transitions.proofs.InState.{happened-in-state}
+use Rattle.event_rows.proofs.happened.Statement.{statement}
+use Rattle.event_rows.proofs.happened.Tie as tie
+
+pub happened-spec : {M : Type 1} → statement M
+happened-spec =
+    tie.close
+    (tie.spec
+    (λ c. search needs)
+    (λ c κs. search needs)
+    (λ c. search needs)
+    (λ c κs. search needs)
+    (λ c. search needs)
+    (λ c κs. search needs)
+    (λ c. search needs)
+    (λ c κs. search needs)
+    (λ c. search needs)
+    (λ c κs. search needs)
+    (λ c. search needs)
+    (λ c κs. search needs)
+    (λ c. search needs)
+    (λ c κs. search needs)
+    (λ c. search needs)
+    (λ c κs. search needs)
+    (λ c. happened-in-state _ _ _ _ _ (c .before .enum-told .given .1) (c .in-u0 .ensures))
+    (λ c. happened-in-state _ _ _ _ _ (c .before .enum-told2 .given .1) (c .in-u0p .ensures))
+    (λ c. happened-in-state _ _ _ _ _ (c .before .enum-told3 .given .1) (c .in-u1 .ensures))
+    (λ c. happened-in-state _ _ _ _ _ (c .before .enum-told4 .given .1) (c .in-u2 .ensures))
+    (λ c. happened-in-state _ _ _ _ _ (c .before .enum-told5 .given .1) (c .in-u3 .ensures))
+    (λ c. happened-in-state _ _ _ _ _ (c .before .enum-told6 .given .1) (c .in-u4 .ensures))
+    (λ c. happened-in-state _ _ _ _ _ (c .before .enum-told7 .given .1) (c .in-u5 .ensures))
+    (λ c. happened-in-state _ _ _ _ _ (c .before .enum-told8 .given .1) (c .in-u6 .ensures)))

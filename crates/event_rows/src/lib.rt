@@ -1,0 +1,308 @@
+// The step table's rows of events, state by state: what it says of an event's number and, for a message, its type code.
+ghost use mathlib.Core.Path.{_≡_};
+ghost use mathlib.Core.Bool.{cond};
+ghost use Rattle.codes.specs.declared.state.State.the-variants.{U0, U0p, U1, U2, U3, U4, U5, U6};
+ghost use Rattle.transitions.specs.declared.Decision.the-variants.{NoStep};
+ghost use Rattle.transitions.specs.Table.{stepTable, happenedIn, decidedOf};
+use codes::state::State;
+use context::Context;
+use timer::Timer;
+use transitions::Decision;
+use transitions::Send;
+use transitions::Stores;
+use transitions::Taken;
+
+// 1, set-up request.
+const SET_UP: Decision = Decision::Take(Taken {
+    next: State::U0p,
+    actions: 2,
+    sends: Send::Nothing,
+    stops: Timer::NoTimer,
+    sets: Timer::MmEst,
+    stores: Stores::ValueAndReference,
+});
+
+// 2, immediate set-up request.
+const IMMEDIATE_SET_UP: Decision = Decision::Take(Taken {
+    next: State::U1,
+    actions: 0,
+    sends: Send::ImmediateSetup,
+    stops: Timer::NoTimer,
+    sets: Timer::MmEst,
+    stores: Stores::ValueAndReference,
+});
+
+// 6, MM connection established.
+const ESTABLISHED: Decision = Decision::Take(Taken {
+    next: State::U1,
+    actions: 0,
+    sends: Send::Setup,
+    stops: Timer::MmEst,
+    sets: Timer::NoTimer,
+    stores: Stores::Nothing,
+});
+
+// 10, broadcast notified.
+const NOTIFIED: Decision = Decision::Take(Taken {
+    next: State::U3,
+    actions: 1,
+    sends: Send::Nothing,
+    stops: Timer::NoTimer,
+    sets: Timer::NoTimer,
+    stores: Stores::ValueAndReference,
+});
+
+// 3, join.
+const JOIN: Decision = Decision::Take(Taken {
+    next: State::U4,
+    actions: 4,
+    sends: Send::Nothing,
+    stops: Timer::NoTimer,
+    sets: Timer::ConnReq,
+    stores: Stores::Nothing,
+});
+
+// 11, group receive mode entered.
+const RECEIVE_MODE_ENTERED: Decision = Decision::Take(Taken {
+    next: State::U6,
+    actions: 1,
+    sends: Send::Nothing,
+    stops: Timer::ConnReq,
+    sets: Timer::NoTimer,
+    stores: Stores::Nothing,
+});
+
+// 12, no channel: T_no channel is set unless running.
+const NO_CHANNEL: Decision = Decision::Take(Taken {
+    next: State::U6,
+    actions: 1,
+    sends: Send::Nothing,
+    stops: Timer::NoTimer,
+    sets: Timer::NoChannel,
+    stores: Stores::Nothing,
+});
+
+// The same while it runs.
+const STILL_NO_CHANNEL: Decision = Decision::Take(Taken {
+    next: State::U6,
+    actions: 1,
+    sends: Send::Nothing,
+    stops: Timer::NoTimer,
+    sets: Timer::NoTimer,
+    stores: Stores::Nothing,
+});
+
+// 13, channel available.
+const CHANNEL_AVAILABLE: Decision = Decision::Take(Taken {
+    next: State::U6,
+    actions: 1,
+    sends: Send::Nothing,
+    stops: Timer::NoChannel,
+    sets: Timer::NoTimer,
+    stores: Stores::Nothing,
+});
+
+// 4, terminate.
+const TERMINATE: Decision = Decision::Take(Taken {
+    next: State::U5,
+    actions: 0,
+    sends: Send::TerminationRequest,
+    stops: Timer::MmEst,
+    sets: Timer::Term,
+    stores: Stores::Nothing,
+});
+
+// The rows that lead to U0 differ by their actions: none, ..
+const ENDS: Decision = Decision::Take(Taken {
+    next: State::U0,
+    actions: 0,
+    sends: Send::Nothing,
+    stops: Timer::NoTimer,
+    sets: Timer::NoTimer,
+    stores: Stores::Nothing,
+});
+
+// .. 8 abort, ..
+const ENDS_ABORTING: Decision = Decision::Take(Taken {
+    next: State::U0,
+    actions: 8,
+    sends: Send::Nothing,
+    stops: Timer::NoTimer,
+    sets: Timer::NoTimer,
+    stores: Stores::Nothing,
+});
+
+// .. 16 release, ..
+const ENDS_RELEASING: Decision = Decision::Take(Taken {
+    next: State::U0,
+    actions: 16,
+    sends: Send::Nothing,
+    stops: Timer::NoTimer,
+    sets: Timer::NoTimer,
+    stores: Stores::Nothing,
+});
+
+// .. 1 inform higher layers and 8 abort.
+const ENDS_INFORMING_ABORTING: Decision = Decision::Take(Taken {
+    next: State::U0,
+    actions: 9,
+    sends: Send::Nothing,
+    stops: Timer::NoTimer,
+    sets: Timer::NoTimer,
+    stores: Stores::Nothing,
+});
+
+// A row that holds only where something is true.
+fn where_true(holds: bool, taken: Decision) -> Decision
+    ensures { λ r. ⌜ r ≡ cond holds taken NoStep ⌝ }
+{
+    if holds {
+        return taken;
+    }
+    Decision::NoStep
+}
+
+// No channel in U6.
+fn no_channel_in_u6(context: Context) -> Decision
+    ensures { λ r. ⌜ r ≡ happenedIn stepTable U6 context 12 ⌝ }
+{
+    let timers = context.timers;
+    if timers.nochannel {
+        return STILL_NO_CHANNEL;
+    }
+    NO_CHANNEL
+}
+
+fn in_u0(context: Context, number: u8) -> Decision
+    ensures { λ r. ⌜ r ≡ happenedIn stepTable U0 context number ⌝ }
+{
+    match number {
+        1 => SET_UP,
+        2 => IMMEDIATE_SET_UP,
+        10 => NOTIFIED,
+        0..=0 | 3..=9 | 11..=255 => Decision::NoStep,
+    }
+}
+
+fn in_u0p(context: Context, number: u8) -> Decision
+    ensures { λ r. ⌜ r ≡ happenedIn stepTable U0p context number ⌝ }
+{
+    match number {
+        6 => ESTABLISHED,
+        7 => ENDS,
+        14 => ENDS_ABORTING,
+        8 => ENDS_ABORTING,
+        5 => ENDS_RELEASING,
+        9 => ENDS_INFORMING_ABORTING,
+        0..=4 | 10..=13 | 15..=255 => Decision::NoStep,
+    }
+}
+
+fn in_u1(context: Context, number: u8) -> Decision
+    ensures { λ r. ⌜ r ≡ happenedIn stepTable U1 context number ⌝ }
+{
+    let parameters = context.parameters;
+    let timers = context.timers;
+    match number {
+        7 => where_true(timers.mmest, ENDS),
+        14 => where_true(timers.mmest, ENDS_ABORTING),
+        8 => ENDS_ABORTING,
+        4 => where_true(parameters.orig, TERMINATE),
+        5 => ENDS_RELEASING,
+        9 => ENDS_INFORMING_ABORTING,
+        0..=3 | 6..=6 | 10..=13 | 15..=255 => Decision::NoStep,
+    }
+}
+
+fn in_u2(context: Context, number: u8) -> Decision
+    ensures { λ r. ⌜ r ≡ happenedIn stepTable U2 context number ⌝ }
+{
+    let parameters = context.parameters;
+    match number {
+        4 => where_true(parameters.orig, TERMINATE),
+        5 => ENDS_RELEASING,
+        9 => ENDS_INFORMING_ABORTING,
+        8 => ENDS_INFORMING_ABORTING,
+        0..=3 | 6..=7 | 10..=255 => Decision::NoStep,
+    }
+}
+
+fn in_u3(context: Context, number: u8) -> Decision
+    ensures { λ r. ⌜ r ≡ happenedIn stepTable U3 context number ⌝ }
+{
+    match number {
+        3 => JOIN,
+        5 => ENDS_RELEASING,
+        9 => ENDS_INFORMING_ABORTING,
+        8 => ENDS_INFORMING_ABORTING,
+        0..=2 | 4..=4 | 6..=7 | 10..=255 => Decision::NoStep,
+    }
+}
+
+fn in_u4(context: Context, number: u8) -> Decision
+    ensures { λ r. ⌜ r ≡ happenedIn stepTable U4 context number ⌝ }
+{
+    match number {
+        11 => RECEIVE_MODE_ENTERED,
+        16 => ENDS_INFORMING_ABORTING,
+        5 => ENDS_RELEASING,
+        9 => ENDS_INFORMING_ABORTING,
+        8 => ENDS_INFORMING_ABORTING,
+        0..=4 | 6..=7 | 10..=10 | 12..=15 | 17..=255 => Decision::NoStep,
+    }
+}
+
+fn in_u5(context: Context, number: u8) -> Decision
+    ensures { λ r. ⌜ r ≡ happenedIn stepTable U5 context number ⌝ }
+{
+    let timers = context.timers;
+    match number {
+        15 => where_true(timers.term, ENDS_INFORMING_ABORTING),
+        5 => ENDS_RELEASING,
+        9 => ENDS_INFORMING_ABORTING,
+        8 => ENDS_INFORMING_ABORTING,
+        0..=4 | 6..=7 | 10..=14 | 16..=255 => Decision::NoStep,
+    }
+}
+
+fn in_u6(context: Context, number: u8) -> Decision
+    ensures { λ r. ⌜ r ≡ happenedIn stepTable U6 context number ⌝ }
+{
+    let timers = context.timers;
+    match number {
+        12 => no_channel_in_u6(context),
+        13 => CHANNEL_AVAILABLE,
+        17 => where_true(timers.nochannel, ENDS_INFORMING_ABORTING),
+        5 => ENDS_RELEASING,
+        9 => ENDS_INFORMING_ABORTING,
+        8 => ENDS_INFORMING_ABORTING,
+        0..=4 | 6..=7 | 10..=11 | 14..=16 | 18..=255 => Decision::NoStep,
+    }
+}
+
+// An event that is no message, in the context's state.
+fn happened(context: Context, number: u8) -> Decision
+    ensures { λ r. ⌜ r ≡ happenedIn stepTable (context .state) context number ⌝ }
+{
+    let state = context.state;
+    match state {
+        State::U0 => in_u0(context, number),
+        State::U0p => in_u0p(context, number),
+        State::U1 => in_u1(context, number),
+        State::U2 => in_u2(context, number),
+        State::U3 => in_u3(context, number),
+        State::U4 => in_u4(context, number),
+        State::U5 => in_u5(context, number),
+        State::U6 => in_u6(context, number),
+    }
+}
+
+// What the table says in the context's state.
+pub fn decide(context: Context, number: u8, code: u8) -> Decision
+    ensures { λ r. ⌜ r ≡ decidedOf context number code ⌝ }
+{
+    if number == 18 {
+        return message_rows::decide(context, code);
+    }
+    happened(context, number)
+}

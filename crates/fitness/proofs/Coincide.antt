@@ -1,0 +1,15 @@
+-- Any two outcomes that a public contract of this crate allows coincide.
+use mathlib.Core.Path.{_≡_}
+use mathlib.Core.Bool.{Bool}
+use Rattle.octets.proofs.Coincide.{coincide}
+use Rattle.codes.specs.declared.state.State.{State}
+use Rattle.codes.specs.declared.attributes.Parameters.{Parameters}
+use Rattle.context.specs.declared.Context.{Context}
+use Rattle.fitness.specs.Fitness.{consistentBy, fitBy}
+use Rattle.fitness.specs.First.{firstFitness}
+
+pub is-consistent-coincides : (s : State) (p : Parameters) (a b : Bool) → a ≡ consistentBy firstFitness s p → b ≡ consistentBy firstFitness s p → a ≡ b
+is-consistent-coincides s p a b = coincide (consistentBy firstFitness s p) a b
+
+pub is-fit-coincides : (x : Context) (a b : Bool) → a ≡ fitBy firstFitness x → b ≡ fitBy firstFitness x → a ≡ b
+is-fit-coincides x a b = coincide (fitBy firstFitness x) a b

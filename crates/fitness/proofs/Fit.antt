@@ -1,0 +1,76 @@
+-- What fitness says, by any descriptor: its parts, and that U0 is the cleared context.
+use mathlib.Core.Path.{_≡_}
+use mathlib.Core.Bool.{Bool, true, false, not, _&&_, _||_}
+use lib.Dec.{eqb, leb}
+use borrow.Author.Tests.{eqb-true, not-true}
+use Rattle.codes.specs.declared.state.State.the-variants.{U0}
+use Rattle.codes.specs.declared.attributes.Parameters.{Parameters}
+use Rattle.message.specs.declared.Reference.{Reference}
+use Rattle.timer.specs.declared.Timers.{Timers}
+use Rattle.context.specs.declared.Context.{Context}
+use Rattle.context.specs.States.{same}
+use Rattle.context.specs.Context.{cleared}
+use Rattle.context.proofs.Whole.{and-left, and-right, and-both, if-so}
+use Rattle.fitness.specs.Fitness.{Fitness, consistentBy, timersFitBy, isCleared, fitBy}
+
+-- The parts of fitness.
+module _ (d : Fitness) (x : Context) (fit : fitBy d x ≡ true) where
+  pub fit-consistent : consistentBy d (x .state) (x .parameters) ≡ true
+  unfolding fitBy
+  fit-consistent = and-left (consistentBy d (x .state) (x .parameters)) _ fit
+
+  behind : (leb (x .value) 6 && ((not (same (x .state) U0) || isCleared x) && timersFitBy d (x .state) (x .timers))) ≡ true
+  unfolding fitBy
+  behind = and-right (consistentBy d (x .state) (x .parameters)) _ fit
+
+  pub fit-value : leb (x .value) 6 ≡ true
+  fit-value = and-left (leb (x .value) 6) _ behind
+
+  pub fit-cleared : (not (same (x .state) U0) || isCleared x) ≡ true
+  fit-cleared = and-left (not (same (x .state) U0) || isCleared x) _ (and-right (leb (x .value) 6) _ behind)
+
+  pub fit-timers : timersFitBy d (x .state) (x .timers) ≡ true
+  fit-timers = and-right (not (same (x .state) U0) || isCleared x) _ (and-right (leb (x .value) 6) _ behind)
+
+-- And back.
+pub fit-made : (d : Fitness) (x : Context) → consistentBy d (x .state) (x .parameters) ≡ true → leb (x .value) 6 ≡ true → (not (same (x .state) U0) || isCleared x) ≡ true
+    → timersFitBy d (x .state) (x .timers) ≡ true → fitBy d x ≡ true
+unfolding fitBy
+fit-made d x a b c e = and-both _ _ a (and-both _ _ b (and-both _ _ c e))
+
+none : (b : Bool) → not b ≡ true → b ≡ false
+none b e = not-true b e
+
+-- A fit context in U0 is the cleared one.
+pub fit-u0 : (d : Fitness) (x : Context) → fitBy d x ≡ true → x .state ≡ U0 → x ≡ cleared
+unfolding cleared isCleared
+fit-u0 d x fit e =
+    let s : same (x .state) U0 ≡ true = rw e in
+    let all : isCleared x ≡ true = if-so _ _ (fit-cleared d x fit) s in
+    let p = and-left (not (x .parameters .orig) && (not (x .parameters .comm) && (not (x .parameters .datt) && not (x .parameters .uatt)))) _ all in
+    let q = and-right (not (x .parameters .orig) && (not (x .parameters .comm) && (not (x .parameters .datt) && not (x .parameters .uatt)))) _ all in
+    let t = and-left (not (x .timers .mmest) && (not (x .timers .term) && (not (x .timers .connreq) && not (x .timers .nochannel)))) _ q in
+    let n = and-right (not (x .timers .mmest) && (not (x .timers .term) && (not (x .timers .connreq) && not (x .timers .nochannel)))) _ q in
+    let z = and-right (eqb (x .value) 0) _ n in
+    let p1 = and-right (not (x .parameters .orig)) _ p in
+    let p2 = and-right (not (x .parameters .comm)) _ p1 in
+    let t1 = and-right (not (x .timers .mmest)) _ t in
+    let t2 = and-right (not (x .timers .term)) _ t1 in
+    let z1 = and-right (eqb (x .reference .first) 0) _ z in
+    let z2 = and-right (eqb (x .reference .second) 0) _ z1 in
+    rw (
+      e,
+      none (x .parameters .orig) (and-left (not (x .parameters .orig)) _ p),
+      none (x .parameters .comm) (and-left (not (x .parameters .comm)) _ p1),
+      none (x .parameters .datt) (and-left (not (x .parameters .datt)) _ p2),
+      none (x .parameters .uatt) (and-right (not (x .parameters .datt)) _ p2),
+      none (x .timers .mmest) (and-left (not (x .timers .mmest)) _ t),
+      none (x .timers .term) (and-left (not (x .timers .term)) _ t1),
+      none (x .timers .connreq) (and-left (not (x .timers .connreq)) _ t2),
+      none (x .timers .nochannel) (and-right (not (x .timers .connreq)) _ t2),
+      eqb-true (x .value) 0 (and-left (eqb (x .value) 0) _ n),
+      eqb-true (x .reference .first) 0 (and-left (eqb (x .reference .first) 0) _ z),
+      eqb-true (x .reference .second) 0 (and-left (eqb (x .reference .second) 0) _ z1),
+      eqb-true (x .reference .third) 0 (and-left (eqb (x .reference .third) 0) _ z2),
+      eqb-true (x .reference .fourth) 0 (and-right (eqb (x .reference .third) 0) _ z2),
+    )

@@ -1,0 +1,6 @@
+pub mod Consistent
+pub mod Fit
+pub mod Tested
+pub mod Sound
+pub mod First
+pub mod Coincide

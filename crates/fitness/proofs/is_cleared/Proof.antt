@@ -1,0 +1,12 @@
+-- `is_cleared` meets its contract: each test is the definition's.
+use mathlib.Core.Path.{refl}
+use Rattle.fitness.specs.Fitness.{isCleared}
+use Rattle.fitness.proofs.is_cleared.Statement.{statement}
+use Rattle.fitness.proofs.is_cleared.Tie as tie
+
+pub is-cleared-spec : {M : Type 1} → statement M
+unfolding isCleared
+is-cleared-spec =
+    tie.close
+    (tie.spec
+    (λ c. refl))

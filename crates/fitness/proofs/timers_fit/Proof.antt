@@ -1,0 +1,28 @@
+-- `timers_fit` meets its contract, state by state.
+use borrow.Author.Needs.{needs}
+use Rattle.fitness.specs.Fitness.{timersFitBy}
+use Rattle.fitness.specs.First.{firstFitness}
+use Rattle.fitness.proofs.timers_fit.Statement.{statement}
+use Rattle.fitness.proofs.timers_fit.Tie as tie
+
+pub timers-fit-spec : {M : Type 1} → statement M
+unfolding timersFitBy firstFitness
+timers-fit-spec =
+    tie.close
+    (tie.spec
+    (λ c. search needs)
+    (λ c. search needs)
+    (λ c. search needs)
+    (λ c. search needs)
+    (λ c. search needs)
+    (λ c. search needs)
+    (λ c. search needs)
+    (λ c. search needs)
+    (λ c. rw (c .before .before .before .before .enum-told .given .1))
+    (λ c. rw (c .before .before .before .before .enum-told2 .given .1))
+    (λ c. rw (c .before .before .before .enum-told3 .given .1))
+    (λ c. rw (c .before .before .before .before .enum-told4 .given .1))
+    (λ c. rw (c .before .before .before .before .enum-told5 .given .1))
+    (λ c. rw (c .before .before .before .before .enum-told6 .given .1))
+    (λ c. rw (c .before .before .before .enum-told7 .given .1))
+    (λ c. rw (c .before .before .before .enum-told8 .given .1)))

@@ -1,0 +1,35 @@
+-- Document 01, "The context": what it says of fitness, as data.
+use mathlib.Core.List.{[], _∷_}
+use mathlib.Core.Bool.{Bool}
+use Rattle.codes.specs.declared.state.State.{State}
+use Rattle.codes.specs.declared.state.State.the-variants.{U0, U0p, U1, U3, U4, U5, U6}
+use Rattle.codes.specs.declared.attributes.Parameters.{Parameters}
+use Rattle.timer.specs.declared.Timer.the-variants.{MmEst, Term, ConnReq, NoChannel}
+use Rattle.timer.specs.declared.Timers.{Timers}
+use Rattle.context.specs.declared.Context.{Context}
+use Rattle.fitness.specs.Fitness.{Fitness, always, optionally, ORIG, COMM, consistentBy, timersFitBy, fitBy}
+
+-- The table of timers, its last column; and 6.1.2.1.11.
+unfoldable pub firstFitness : Fitness
+firstFitness = record {
+  timers =
+      (MmEst, (U0p, always) ∷ (U1, optionally) ∷ []) ∷
+      (Term, (U5, optionally) ∷ []) ∷
+      (ConnReq, (U4, always) ∷ []) ∷
+      (NoChannel, (U6, optionally) ∷ []) ∷
+      [];
+  wrong =
+      (ORIG, U3 ∷ U4 ∷ U6 ∷ []) ∷
+      (COMM, U0 ∷ U3 ∷ U4 ∷ U6 ∷ []) ∷
+      [];
+}
+
+-- Consistent and fit, where nothing else is said.
+abbrev pub consistent : State → Parameters → Bool
+consistent s p = consistentBy firstFitness s p
+
+abbrev pub timersFit : State → Timers → Bool
+timersFit s t = timersFitBy firstFitness s t
+
+abbrev pub fitOf : Context → Bool
+fitOf x = fitBy firstFitness x

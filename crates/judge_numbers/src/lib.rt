@@ -1,0 +1,69 @@
+// The log judge over the octets that a host in C keeps of its settings, its verdict in numbers.
+ghost use mathlib.Core.Path.{_≡_};
+ghost use Prim.Native.Nat.{_+_, _≤_};
+ghost use lib.ListN.{length};
+ghost use Rattle.octets.specs.Run.{part};
+ghost use Rattle.verdict.specs.Judge.{judgeOf};
+ghost use Rattle.settings_octets.specs.Octets.{identityOf, ownOf};
+ghost use Rattle.judge_numbers.specs.Judging.{Timed, atEntry, judgementOf};
+use element::Run;
+use reply::Own;
+use verdict::Judged;
+
+#[repr(C)]
+pub struct Judgement {
+    pub answer: u32,
+    pub entry: usize,
+    pub least: u32,
+    pub greatest: u32,
+}
+
+// An answer with an entry, and no timers.
+fn at_entry(answer: u32, entry: usize) -> Judgement
+    ensures { λ r. ⌜ r ≡ atEntry answer entry ⌝ }
+{
+    Judgement {
+        answer,
+        entry,
+        least: 0,
+        greatest: 0,
+    }
+}
+
+// The verdict in C's numbers.
+fn judgement_of(judged: Judged) -> Judgement
+    requires { ⌜ Timed judged ⌝ }
+    ensures { λ r. ⌜ r ≡ judgementOf judged ⌝ }
+{
+    match judged {
+        Judged::Accepted(count, least, greatest) => Judgement {
+            answer: 0,
+            entry: count,
+            least: least as u32,
+            greatest: greatest as u32,
+        },
+        Judged::Unreadable(entry) => at_entry(8, entry),
+        Judged::Unexplained(entry) => at_entry(9, entry),
+        Judged::TooLong => at_entry(10, 0),
+        Judged::OutOfRange => at_entry(4, 0),
+    }
+}
+
+// The judge, with the identity as a run of the settings' octets.
+fn judged(own: Own, settings: &[u8], run: Run, log: &[u8]) -> Judged
+    requires { ⌜ run .start + run .count ≤ length (now settings) ⌝ }
+    ensures { λ r. ⌜ r ≡ judgeOf own (part (now (settings .entry)) (run .start) (run .count)) (now (log .entry)) ⌝ }
+{
+    let start = run.start;
+    let end = start + run.count;
+    judge::judge(own, &settings[start..end], log)
+}
+
+// The log judge over thirteen octets of settings.
+pub fn judge_log(settings: &[u8; 13], log: &[u8]) -> Judgement
+    ensures { λ r. ⌜ r ≡ judgementOf (judgeOf (ownOf (now (settings .entry))) (identityOf (now (settings .entry))) (now (log .entry))) ⌝ }
+{
+    let own = settings_octets::own_of(settings);
+    let run = settings_octets::identity_run(settings);
+    judgement_of(judged(own, settings, run, log))
+}

@@ -1,0 +1,16 @@
+-- `greatest_left` meets its contract: the earlier of the two where the entry is the timer's expiry.
+use borrow.Author.Tests.{ne-eqb, not-true, not-false}
+use native.Mathlib.Omega.{arith}
+use Rattle.judge_time.specs.Clock.{greatestLeft}
+use Rattle.judge_time.proofs.greatest_left.Statement.{statement}
+use Rattle.judge_time.proofs.greatest_left.Tie as tie
+
+pub greatest-left-spec : {M : Type 1} → statement M
+unfolding greatestLeft
+greatest-left-spec =
+    tie.close
+    (tie.spec
+    (λ c. rw (ne-eqb _ _ (c .if1 .taken)))
+    (λ c. rw (c .before .if1 .left, not-true (c .before .before .args .ends) (c .if2 .taken)))
+    (λ c. rw (c .before .before .if1 .left, not-false (c .before .before .before .args .ends) (c .before .if2 .left)) (omega arith))
+    (λ c. rw (c .before .before .if1 .left, not-false (c .before .before .before .args .ends) (c .before .if2 .left)) (omega arith)))

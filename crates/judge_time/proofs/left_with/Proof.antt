@@ -1,0 +1,11 @@
+-- `left_with` meets its contract: no timer is left, or some are.
+use borrow.Author.Tests.{lt-ltb, le-ltb}
+use Rattle.judge_time.proofs.left_with.Statement.{statement}
+use Rattle.judge_time.proofs.left_with.Tie as tie
+
+pub left-with-spec : {M : Type 1} → statement M
+left-with-spec =
+    tie.close
+    (tie.spec
+    (λ c. rw (lt-ltb _ _ (c .if1 .taken)))
+    (λ c. rw (le-ltb _ _ (c .if1 .left))))

@@ -1,0 +1,6 @@
+pub mod Explaining
+pub mod Advancing
+pub mod Refusing
+pub mod Mirror
+pub mod Standing
+pub mod Coincide

@@ -1,0 +1,10 @@
+-- Any two outcomes that a public contract of this crate allows coincide.
+use Prim.Native.Nat.{ℕ}
+use mathlib.Core.Path.{_≡_}
+use Rattle.octets.proofs.Coincide.{coincide}
+use Rattle.context.specs.declared.Context.{Context}
+use Rattle.transitions.specs.declared.Decision.{Decision}
+use Rattle.transitions.specs.Table.{decidedOf}
+
+pub decide-coincides : (x : Context) (code : ℕ) (a b : Decision) → a ≡ decidedOf x 18 code → b ≡ decidedOf x 18 code → a ≡ b
+decide-coincides x code a b = coincide (decidedOf x 18 code) a b

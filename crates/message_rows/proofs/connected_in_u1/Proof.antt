@@ -1,0 +1,12 @@
+-- `connected_in_u1` meets its contract, with T_MM-est and without.
+use Rattle.transitions.specs.Table.{stepTable, heardIn}
+use Rattle.message_rows.proofs.connected_in_u1.Statement.{statement}
+use Rattle.message_rows.proofs.connected_in_u1.Tie as tie
+
+pub connected-in-u1-spec : {M : Type 1} → statement M
+unfolding stepTable heardIn
+connected-in-u1-spec =
+    tie.close
+    (tie.spec
+    (λ c. rw (c .if1 .taken))
+    (λ c. rw (c .if1 .left)))

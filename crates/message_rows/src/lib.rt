@@ -1,0 +1,159 @@
+// The step table's rows of messages, state by state: what it says of a message of a type.
+ghost use mathlib.Core.Path.{_≡_};
+ghost use Rattle.codes.specs.declared.state.State.the-variants.{U0p, U1, U2, U5};
+ghost use Rattle.codes.specs.MessageTypes.{CONNECT};
+ghost use Rattle.transitions.specs.Table.{stepTable, heardIn, decidedOf};
+use codes::message_type;
+use codes::state::State;
+use context::Context;
+use timer::Timer;
+use transitions::Decision;
+use transitions::Send;
+use transitions::Stores;
+use transitions::Taken;
+
+// CONNECT: 32 if in U1 with T_MM-est, else 0.
+const CONNECTED: Decision = Decision::Take(Taken {
+    next: State::U2,
+    actions: 0,
+    sends: Send::Nothing,
+    stops: Timer::MmEst,
+    sets: Timer::NoTimer,
+    stores: Stores::ItsReference,
+});
+
+// The same in U1 with T_MM-est.
+const CONNECTED_IMPLICITLY: Decision = Decision::Take(Taken {
+    next: State::U2,
+    actions: 32,
+    sends: Send::Nothing,
+    stops: Timer::MmEst,
+    sets: Timer::NoTimer,
+    stores: Stores::ItsReference,
+});
+
+// TERMINATION REJECT in U5.
+const REJECTED: Decision = Decision::Take(Taken {
+    next: State::U5,
+    actions: 1,
+    sends: Send::Nothing,
+    stops: Timer::Term,
+    sets: Timer::NoTimer,
+    stores: Stores::Nothing,
+});
+
+// TERMINATION, in all states but U0.
+const TERMINATED: Decision = Decision::Take(Taken {
+    next: State::U0,
+    actions: 17,
+    sends: Send::Nothing,
+    stops: Timer::NoTimer,
+    sets: Timer::NoTimer,
+    stores: Stores::Nothing,
+});
+
+// A type that is not compatible with the state.
+const INCOMPATIBLE: Decision = Decision::Report(98);
+
+// A type that does not exist.
+const UNKNOWN: Decision = Decision::Report(97);
+
+// CONNECT in U1.
+fn connected_in_u1(context: Context) -> Decision
+    ensures { λ r. ⌜ r ≡ heardIn stepTable U1 context CONNECT ⌝ }
+{
+    let timers = context.timers;
+    if timers.mmest {
+        return CONNECTED_IMPLICITLY;
+    }
+    CONNECTED
+}
+
+// A message in U0.p.
+fn heard_in_u0p(context: Context, code: u8) -> Decision
+    ensures { λ r. ⌜ r ≡ heardIn stepTable U0p context code ⌝ }
+{
+    match code {
+        message_type::IMMEDIATE_SETUP => INCOMPATIBLE,
+        message_type::SETUP => INCOMPATIBLE,
+        message_type::CONNECT => CONNECTED,
+        message_type::TERMINATION => TERMINATED,
+        message_type::TERMINATION_REQUEST => INCOMPATIBLE,
+        message_type::TERMINATION_REJECT => INCOMPATIBLE,
+        message_type::STATUS => INCOMPATIBLE,
+        message_type::GET_STATUS => Decision::TellStatus,
+        message_type::SET_PARAMETER => Decision::SetParameters,
+        0..=48 | 55..=55 | 59..=255 => UNKNOWN,
+    }
+}
+
+// A message in U1.
+fn heard_in_u1(context: Context, code: u8) -> Decision
+    ensures { λ r. ⌜ r ≡ heardIn stepTable U1 context code ⌝ }
+{
+    match code {
+        message_type::IMMEDIATE_SETUP => INCOMPATIBLE,
+        message_type::SETUP => INCOMPATIBLE,
+        message_type::CONNECT => connected_in_u1(context),
+        message_type::TERMINATION => TERMINATED,
+        message_type::TERMINATION_REQUEST => INCOMPATIBLE,
+        message_type::TERMINATION_REJECT => INCOMPATIBLE,
+        message_type::STATUS => INCOMPATIBLE,
+        message_type::GET_STATUS => Decision::TellStatus,
+        message_type::SET_PARAMETER => Decision::SetParameters,
+        0..=48 | 55..=55 | 59..=255 => UNKNOWN,
+    }
+}
+
+// A message in U5.
+fn heard_in_u5(context: Context, code: u8) -> Decision
+    ensures { λ r. ⌜ r ≡ heardIn stepTable U5 context code ⌝ }
+{
+    match code {
+        message_type::IMMEDIATE_SETUP => INCOMPATIBLE,
+        message_type::SETUP => INCOMPATIBLE,
+        message_type::CONNECT => INCOMPATIBLE,
+        message_type::TERMINATION => TERMINATED,
+        message_type::TERMINATION_REQUEST => INCOMPATIBLE,
+        message_type::TERMINATION_REJECT => REJECTED,
+        message_type::STATUS => INCOMPATIBLE,
+        message_type::GET_STATUS => Decision::TellStatus,
+        message_type::SET_PARAMETER => Decision::SetParameters,
+        0..=48 | 55..=55 | 59..=255 => UNKNOWN,
+    }
+}
+
+// A message in U2, and so in U3, U4 and U6.
+fn heard_elsewhere(context: Context, code: u8) -> Decision
+    ensures { λ r. ⌜ r ≡ heardIn stepTable U2 context code ⌝ }
+{
+    match code {
+        message_type::IMMEDIATE_SETUP => INCOMPATIBLE,
+        message_type::SETUP => INCOMPATIBLE,
+        message_type::CONNECT => INCOMPATIBLE,
+        message_type::TERMINATION => TERMINATED,
+        message_type::TERMINATION_REQUEST => INCOMPATIBLE,
+        message_type::TERMINATION_REJECT => INCOMPATIBLE,
+        message_type::STATUS => INCOMPATIBLE,
+        message_type::GET_STATUS => Decision::TellStatus,
+        message_type::SET_PARAMETER => Decision::SetParameters,
+        0..=48 | 55..=55 | 59..=255 => UNKNOWN,
+    }
+}
+
+// What the table says of a message of a type in the context's state. It is asked before a message is read, and by itself it is small.
+pub fn decide(context: Context, code: u8) -> Decision
+    ensures { λ r. ⌜ r ≡ decidedOf context 18 code ⌝ }
+{
+    let state = context.state;
+    match state {
+        State::U0 => Decision::Ignore,
+        State::U0p => heard_in_u0p(context, code),
+        State::U1 => heard_in_u1(context, code),
+        State::U2 => heard_elsewhere(context, code),
+        State::U3 => heard_elsewhere(context, code),
+        State::U4 => heard_elsewhere(context, code),
+        State::U5 => heard_in_u5(context, code),
+        State::U6 => heard_elsewhere(context, code),
+    }
+}

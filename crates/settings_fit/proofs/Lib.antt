@@ -1,0 +1,5 @@
+pub mod Exact
+pub mod Faults
+pub mod Only
+pub mod Texts
+pub mod Verdict

@@ -1,0 +1,4 @@
+pub mod Coincide
+pub mod Names
+pub mod Turns
+pub mod Values

@@ -1,0 +1,3 @@
+pub mod Coincide
+pub mod Digits
+pub mod Values

@@ -1,0 +1,46 @@
+// The tests of a step's arguments, whatever the context: the reply buffer, the length of a received message, and what is out of range.
+ghost use mathlib.Core.Path.{_≡_};
+ghost use Rattle.step_arguments.specs.Arguments.{settingsOut, outOfRange, argumentRefusal};
+
+// Whether settings are out of range: a key number over 7, an identity of 0 or over 8 octets.
+pub fn are_settings_out(key: u8, identity: usize) -> bool
+    ensures { λ r. ⌜ r ≡ settingsOut key identity ⌝ }
+{
+    (7 < key) | ((identity == 0) | (8 < identity))
+}
+
+// Whether something is outside its range.
+fn is_out_of_range(key: u8, identity: usize, number: u32, value: u8, mode: u8) -> bool
+    ensures { λ r. ⌜ r ≡ outOfRange key identity number value mode ⌝ }
+{
+    let settings = are_settings_out(key, identity);
+    let no_event = (number == 0) | (18 < number);
+    let no_mode = (number == 18) & (1 < mode);
+    let no_value = ((number == 1) | ((number == 2) | (number == 10))) & (6 < value);
+    settings | (no_event | (no_mode | no_value))
+}
+
+// Why a step's arguments are refused: 5, 6 and 4 in their order, and 0 where they are not. `octets` is the length of the message received, `room` that
+// of the lent reply buffer.
+pub fn argument_refusal(
+    key: u8,
+    identity: usize,
+    number: u32,
+    value: u8,
+    mode: u8,
+    octets: usize,
+    room: usize,
+) -> u8
+    ensures { λ r. ⌜ r ≡ argumentRefusal key identity number value mode octets room ⌝ }
+{
+    if room < 255 {
+        return 5;
+    }
+    if (number == 18) & (251 < octets) {
+        return 6;
+    }
+    if is_out_of_range(key, identity, number, value, mode) {
+        return 4;
+    }
+    0
+}

@@ -1,0 +1,3 @@
+pub mod Coincide
+pub mod Laws
+pub mod Steps

@@ -1,0 +1,124 @@
+// The timers: which there are, and of each its number, its length and the event that is its expiry. Where a timer runs is no matter of this crate.
+ghost use mathlib.Core.Path.{_≡_};
+ghost use Rattle.timer.specs.Timers.{timerNumber, runningAmong, expiryOf, lengthOf, withTimer};
+
+// A timer, or none of them.
+pub enum Timer {
+    NoTimer,
+    MmEst,
+    Term,
+    ConnReq,
+    NoChannel,
+}
+
+// Which timers run: T_MM-est, T_term, T_conn req, T_no channel.
+pub struct Timers {
+    pub mmest: bool,
+    pub term: bool,
+    pub connreq: bool,
+    pub nochannel: bool,
+}
+
+// The timers' lengths in milliseconds; T_conn req, the joining timer, is a setting from its least to its greatest.
+impl Timers {
+    pub const MM_EST: u32 = 5000;
+
+    pub const TERM: u32 = 10000;
+
+    pub const JOINING_LEAST: u32 = 10000;
+
+    pub const JOINING_GREATEST: u32 = 30000;
+
+    pub const NO_CHANNEL: u32 = 3000;
+}
+
+// The number of a timer, 0 for none.
+pub fn timer_number(timer: Timer) -> u8
+    ensures { λ r. ⌜ r ≡ timerNumber timer ⌝ }
+{
+    match timer {
+        Timer::NoTimer => 0,
+        Timer::MmEst => 1,
+        Timer::Term => 2,
+        Timer::ConnReq => 3,
+        Timer::NoChannel => 4,
+    }
+}
+
+// The number of the timer that runs, 0 for none. In a fit context at most one does.
+pub fn running_timer(timers: Timers) -> u8
+    ensures { λ r. ⌜ r ≡ runningAmong timers ⌝ }
+{
+    if timers.mmest {
+        return timer_number(Timer::MmEst);
+    }
+    if timers.term {
+        return timer_number(Timer::Term);
+    }
+    if timers.connreq {
+        return timer_number(Timer::ConnReq);
+    }
+    if timers.nochannel {
+        return timer_number(Timer::NoChannel);
+    }
+    0
+}
+
+// The number of the timer whose expiry an event is, 0 where it is none.
+pub fn expired_timer(event: u32) -> u8
+    ensures { λ r. ⌜ r ≡ expiryOf event ⌝ }
+{
+    match event {
+        14 => timer_number(Timer::MmEst),
+        15 => timer_number(Timer::Term),
+        16 => timer_number(Timer::ConnReq),
+        17 => timer_number(Timer::NoChannel),
+        _ => 0,
+    }
+}
+
+// The length of the timer of a number, in milliseconds, where the joining timer is set to `joining`; 0 for no timer.
+pub fn timer_length(joining: u32, timer: u8) -> u32
+    ensures { λ r. ⌜ r ≡ lengthOf joining timer ⌝ }
+{
+    match timer {
+        1 => Timers::MM_EST,
+        2 => Timers::TERM,
+        3 => joining,
+        4 => Timers::NO_CHANNEL,
+        _ => 0,
+    }
+}
+
+// The timers with one of them running or not.
+pub fn with_timer(timer: Timer, runs: bool, timers: Timers) -> Timers
+    ensures { λ r. ⌜ r ≡ withTimer timer runs timers ⌝ }
+{
+    match timer {
+        Timer::NoTimer => timers,
+        Timer::MmEst => Timers {
+            mmest: runs,
+            term: timers.term,
+            connreq: timers.connreq,
+            nochannel: timers.nochannel,
+        },
+        Timer::Term => Timers {
+            mmest: timers.mmest,
+            term: runs,
+            connreq: timers.connreq,
+            nochannel: timers.nochannel,
+        },
+        Timer::ConnReq => Timers {
+            mmest: timers.mmest,
+            term: timers.term,
+            connreq: runs,
+            nochannel: timers.nochannel,
+        },
+        Timer::NoChannel => Timers {
+            mmest: timers.mmest,
+            term: timers.term,
+            connreq: timers.connreq,
+            nochannel: runs,
+        },
+    }
+}

@@ -1,0 +1,110 @@
+-- Sound rows: tests that are computed over a table's rows, from which it follows of every step by them that a fit context stays fit, that no timer is set anew while
+-- it runs, that actions are at most their sum, and that only a message is answered by a STATUS. A table that is added is rows, and these tests run over them.
+use Prim.Native.Nat.{ℕ}
+use mathlib.Core.Path.{_≡_, refl}
+use mathlib.Core.List.{List, [], _∷_}
+use mathlib.Core.Bool.{Bool, true, false, cond, not, _&&_, _||_}
+use lib.Dec.{eqb, leb}
+use Rattle.codes.specs.declared.state.State.the-variants.{U0}
+use Rattle.timer.specs.Timers.{isOn, timerNumber, runningAmong, withTimer}
+use Rattle.context.specs.States.{same}
+use Rattle.fitness.specs.Fitness.{Fitness, timersFitBy}
+use Rattle.fitness.specs.First.{firstFitness}
+use Rattle.fitness.proofs.Sound.{Sound as SoundFitness}
+use Rattle.fitness.proofs.First.{first-sound}
+use Rattle.transitions.specs.declared.Send.{Send}
+use Rattle.transitions.specs.declared.Send.the-variants.{Nothing, ImmediateSetup, Setup, TerminationRequest, Status, ErrorStatus}
+use Rattle.transitions.specs.Table.{
+  Effect,
+  send,
+  stop,
+  set,
+  set-unless-running,
+  store-value-and-reference,
+  store-its-reference,
+  Row,
+  row,
+  stepTable,
+  timersAfter,
+}
+use Rattle.transitions.proofs.Every.{Test, passes}
+use Rattle.transitions.proofs.Types.{ofTypes}
+
+-- The kinds of effects: what is sent, stopped, set and stored.
+abbrev pub kindOf : Effect → ℕ
+kindOf (send m) = 0
+kindOf (stop k) = 1
+kindOf (set k) = 2
+kindOf (set-unless-running k) = 2
+kindOf store-value-and-reference = 3
+kindOf store-its-reference = 3
+
+abbrev pub hasKind : ℕ → List Effect → Bool
+hasKind kind [] = false
+hasKind kind (e ∷ more) = eqb kind (kindOf e) || hasKind kind more
+
+-- No two effects are of a kind.
+abbrev pub single : List Effect → Bool
+single [] = true
+single (e ∷ more) = not (hasKind (kindOf e) more) && single more
+
+abbrev pub singles : List Row → Bool
+singles [] = true
+singles (row places occasion next actions effects ∷ more) = single effects && singles more
+
+-- Timers that fit the state fit the next one afterwards; unless that is U0, which clears.
+abbrev pub keepsFit : Fitness → Test
+keepsFit fitness n s t d = same (d .next) U0 || (not (timersFitBy fitness s t) || timersFitBy fitness (d .next) (timersAfter d t))
+
+-- No timer is set that runs.
+abbrev pub setsFresh : Fitness → Test
+setsFresh fitness n s t d = not (timersFitBy fitness s t) || not (isOn (d .sets) t)
+
+-- By numbers of timers, of what is set, what ran before and what runs after: what is set did not run, and runs; where none is set, what runs is what ran.
+abbrev pub rightly : ℕ → ℕ → ℕ → Bool
+rightly started before after = cond (eqb started 0) (eqb after 0 || eqb after before) (eqb after started && not (eqb before started))
+
+abbrev pub setsRightly : Fitness → Test
+setsRightly fitness n s t d =
+    not (timersFitBy fitness s t) || rightly (timerNumber (d .sets)) (runningAmong t) (cond (same (d .next) U0) 0 (runningAmong (timersAfter d t)))
+
+-- The actions are at most a number.
+abbrev pub atMost : ℕ → Test
+atMost most n s t d = leb (d .actions) most
+
+-- A STATUS is no row's: GET STATUS and what is reported have one.
+abbrev pub isPlain : Send → Bool
+isPlain Nothing = true
+isPlain ImmediateSetup = true
+isPlain Setup = true
+isPlain TerminationRequest = true
+isPlain (Status cause) = false
+isPlain (ErrorStatus cause) = false
+
+abbrev pub sendsPlain : Test
+sendsPlain n s t d = isPlain (d .sends)
+
+-- The rows of a table are sound by what it says of fitness, with actions of at most a number.
+pub record Sound (fitness : Fitness) (most : ℕ) (table : List Row) : Type 0 where
+  pub fitness-sound : SoundFitness fitness
+  pub effects-single : singles table ≡ true
+  pub types-known : ofTypes table ≡ true
+  pub fit-kept : passes (keepsFit fitness) table ≡ true
+  pub set-fresh : passes (setsFresh fitness) table ≡ true
+  pub set-rightly : passes (setsRightly fitness) table ≡ true
+  pub actions-few : passes (atMost most) table ≡ true
+  pub sent-plain : passes sendsPlain table ≡ true
+
+-- Document 01's rows are sound, and their actions are at most 63: that is all six of them, and the most that a log takes.
+pub document-01 : Sound firstFitness 63 stepTable
+unfolding stepTable firstFitness timersFitBy runningAmong withTimer
+document-01 = record {
+  fitness-sound = first-sound;
+  effects-single = refl;
+  types-known = refl;
+  fit-kept = refl;
+  set-fresh = refl;
+  set-rightly = refl;
+  actions-few = refl;
+  sent-plain = refl;
+}
