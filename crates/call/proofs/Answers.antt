@@ -22,6 +22,7 @@ use Rattle.transitions.proofs.Decided.{OfTaken, decided-few}
 use Rattle.call.specs.declared.Due.{Due}
 use Rattle.call.specs.declared.Due.the-variants.{Steps, Ignored, Reported, Refused}
 use Rattle.call.specs.declared.Event.{Event}
+use Rattle.call.specs.declared.Reason.{Reason}
 use Rattle.call.specs.declared.Seen.{Seen}
 use Rattle.call.specs.declared.Settled.{Settled}
 use Rattle.call.specs.Events.{seenOf}
@@ -45,9 +46,9 @@ module _ (fitness : Fitness) (most : ℕ) (x : Context) where
     few = few;
   }
 
-  ignored-right : Right most x (ignored x)
+  ignored-right : (reason : Reason) → Right most x (ignored reason x)
   unfolding ignored
-  ignored-right = record { numbered = omega arith; kept = λ n. refl; still = λ n. refl; silent = λ n m. refl; few = omega arith }
+  ignored-right reason = record { numbered = omega arith; kept = λ n. refl; still = λ n. refl; silent = λ n m. refl; few = omega arith }
 
   no-step-right : Right most x (noStep x)
   unfolding noStep
@@ -57,15 +58,15 @@ module _ (fitness : Fitness) (most : ℕ) (x : Context) where
   unfolding reportedWith
   reported-right cause =
       at-cond (Right most x) (x .parameters .comm) _ _
-      (λ e. record { numbered = omega arith; kept = λ n. refl; still = λ n. refl; silent = λ n m. elim (m refl) [ ]; few = omega arith }) (λ e. ignored-right)
+      (λ e. record { numbered = omega arith; kept = λ n. refl; still = λ n. refl; silent = λ n m. elim (m refl) [ ]; few = omega arith }) (λ e. ignored-right _)
 
   carried-right : (d : Decision) (e : Seen) → OfTaken (λ d. leb (d .actions) most ≡ true) d → Right most x (carriedOut fitness x d e)
   unfolding carriedOut statusTold parametersSet
   carried-right (Take d) e f = taken-right _ (d .actions) (d .sends) (leb-true (d .actions) most f)
   carried-right NoStep e f = no-step-right
-  carried-right Ignore e f = ignored-right
+  carried-right Ignore e f = ignored-right _
   carried-right (Report cause) e f = reported-right cause
-  carried-right TellStatus e f = at-cond (Right most x) (x .parameters .comm) _ _ (λ q. taken-right x 0 _ (omega arith)) (λ q. ignored-right)
+  carried-right TellStatus e f = at-cond (Right most x) (x .parameters .comm) _ _ (λ q. taken-right x 0 _ (omega arith)) (λ q. ignored-right _)
   carried-right SetParameters e f =
       at-cond (Right most x) (consistentBy fitness (x .state) (parametersOf (e .attributes))) _ _ (λ q. taken-right _ 0 Nothing (omega arith)) (λ q. reported-right 98)
 
@@ -76,7 +77,7 @@ module _ (fitness : Fitness) (most : ℕ) (x : Context) where
   settled-by : (table : List Row) → Sound fitness most table → (due : Due) → Right most x (settledBy fitness table x due)
   unfolding settledBy
   settled-by table sound (Steps event) = right-by table sound event
-  settled-by table sound Ignored = ignored-right
+  settled-by table sound (Ignored reason) = ignored-right reason
   settled-by table sound (Reported cause) = reported-right cause
   settled-by table sound Refused = no-step-right
 
