@@ -66,7 +66,7 @@ carried-plain : (x : Context) (d : Decision) (e : Seen) → Plain d → PlainTak
 unfolding carriedOut noStep ignored
 carried-plain x (Take d) e p = p
 carried-plain x NoStep e p = refl
-carried-plain x Ignore e p = refl
+carried-plain x Ignore e p = absurd p
 carried-plain x (Report cause) e p = absurd p
 carried-plain x TellStatus e p = absurd p
 carried-plain x SetParameters e p = absurd p
