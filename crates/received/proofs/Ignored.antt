@@ -42,7 +42,7 @@ split false yes-way no-way = no-way refl
 
 -- ---- the first of the reasons that hold
 
-reasonWith : ℕ → Reason
+abbrev reasonWith : ℕ → Reason
 reasonWith n =
     cond (eqb n 1) NoCall (cond (eqb n 2) TooShort (cond (eqb n 3) OtherProtocol (cond (eqb n 4) TransactionMismatch (cond (eqb n 5) OtherIdentity CommFalse))))
 
@@ -90,36 +90,42 @@ module _ (holds : Reason → Bool) where
 -- ---- the rules
 
 module _ (x : Context) where
-  -- Answers with a STATUS if COMM is true, and else COMM false.
-  reported-reason : (cause : ℕ) → reportedWith cause x .reason ≡ cond (not (x .parameters .comm)) (reasonNumber CommFalse) 0
+  -- Where a STATUS is due and COMM is false.
+  abbrev unsaid : Bool → ℕ
+  unsaid due = cond (not (x .parameters .comm) && due) (reasonNumber CommFalse) 0
+
+  nothing-due : 0 ≡ unsaid false
+  nothing-due = split (x .parameters .comm) (λ c. rw c) (λ c. rw c)
+
+  reported-reason : (cause : ℕ) → reportedWith cause x .reason ≡ unsaid true
   unfolding reportedWith ignored
-  reported-reason cause = split (x .parameters .comm) (λ e. rw e) (λ e. rw e)
+  reported-reason cause = split (x .parameters .comm) (λ c. rw c) (λ c. rw c)
 
   carried-reason : (d : Decision) (e : Seen) → Listens d
-      → carriedOut firstFitness x d e .reason ≡ cond (not (x .parameters .comm) && tellsBy x (e .attributes) d) (reasonNumber CommFalse) 0
+      → carriedOut firstFitness x d e .reason ≡ unsaid (tellsBy x (e .attributes) d)
   unfolding carriedOut noStep ignored statusTold parametersSet tellsBy
-  carried-reason (Take d) e l = split (x .parameters .comm) (λ c. rw c) (λ c. rw c)
-  carried-reason NoStep e l = split (x .parameters .comm) (λ c. rw c) (λ c. rw c)
+  carried-reason (Take d) e l = nothing-due
+  carried-reason NoStep e l = nothing-due
   carried-reason Ignore e l = absurd l
-  carried-reason (Report cause) e l = rw (reported-reason cause) (split (x .parameters .comm) (λ c. rw c) (λ c. rw c))
+  carried-reason (Report cause) e l = reported-reason cause
   carried-reason TellStatus e l = split (x .parameters .comm) (λ c. rw c) (λ c. rw c)
   carried-reason SetParameters e l =
       split (consistent (x .state) (parametersOf (e .attributes)))
-      (λ f. rw f (split (x .parameters .comm) (λ c. rw c) (λ c. rw c)))
-      (λ f. rw f (rw (reported-reason 98) (split (x .parameters .comm) (λ c. rw c) (λ c. rw c))))
+      (λ f. rw f nothing-due)
+      (λ f. rw f (reported-reason 98))
 
   -- Rules 3 to 6.
   read-reason : (identity : List ℕ) (mode : ℕ) (s : List ℕ) → same (x .state) U0 ≡ false → (r : Reading)
       → settled x (readingDue (understoodDue identity mode s) r) .reason
-      ≡ cond (namesOther identity mode s r) (reasonNumber OtherIdentity) (cond (not (x .parameters .comm) && wantsStatus x r) (reasonNumber CommFalse) 0)
+      ≡ cond (namesOther identity mode s r) (reasonNumber OtherIdentity) (unsaid (wantsStatus x r))
   unfolding settledBy readingDue understoodDue namesOther wantsStatus ignored stepBy seenOf
   read-reason identity mode s calling (Is flag value m) =
       split (eqb mode 1 && isOther identity s (askedOf m .identity)) (λ e. rw e)
       (λ e. rw e
-      (split (askedOf m .disowns) (λ d. rw d (rw (reported-reason 95) (split (x .parameters .comm) (λ c. rw c) (λ c. rw c))))
-      (λ d. rw d (carried-reason _ (seenMessage m) (decided-listens firstFitness 63 stepTable document-01 x calling 18 (seenMessage m .code))))))
-  read-reason identity mode s calling (Unreadable fault) = rw (reported-reason 96) (split (x .parameters .comm) (λ c. rw c) (λ c. rw c))
-  read-reason identity mode s calling TooLong = rw (reported-reason 96) (split (x .parameters .comm) (λ c. rw c) (λ c. rw c))
+      (split (askedOf m .disowns) (λ d. rw d (reported-reason 95))
+      (λ d. rw d (carried-reason _ (seenMessage m) (decided-listens firstFitness 63 stepTable document-01 x calling (seenMessage m .number) (seenMessage m .code))))))
+  read-reason identity mode s calling (Unreadable fault) = reported-reason 96
+  read-reason identity mode s calling TooLong = reported-reason 96
 
   -- All six: the reason is the first whose condition holds.
   pub reason-first : (identity : List ℕ) (mode : ℕ) (s : List ℕ) → settled x (dueOf identity x mode s) .reason ≡ firstIn (holdsOf identity x mode s) inOrder

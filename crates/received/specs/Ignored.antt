@@ -19,6 +19,7 @@ use Rattle.transitions.specs.declared.Decision.the-variants.{Take, NoStep, Igno
 use Rattle.transitions.specs.Table.{decidedOf}
 use Rattle.call.specs.declared.Reason.{Reason}
 use Rattle.call.specs.declared.Reason.the-variants.{NoCall, TooShort, OtherProtocol, TransactionMismatch, OtherIdentity, CommFalse}
+use Rattle.call.specs.declared.Seen.{Seen}
 use Rattle.call.specs.Events.{seenMessage}
 use Rattle.call.specs.Reasons.{reasonNumber}
 use Rattle.received.specs.Received.{transactionIs, typeCause, askedOf, mustNameUs, isOther}
@@ -41,7 +42,7 @@ tellsBy x attributes SetParameters = not (consistent (x .state) (parametersOf at
 -- A STATUS is due to a message: it can't be read (rule 3), is a CONNECT that doesn't name us (rule 5), or the table decides so.
 unfoldable pub wantsStatus : Context → Reading → Bool
 wantsStatus x (Is flag value message) =
-    (mustNameUs && askedOf message .disowns) || tellsBy x (seenMessage message .attributes) (decidedOf x 18 (seenMessage message .code))
+    let e : Seen = seenMessage message in (mustNameUs && askedOf message .disowns) || tellsBy x (e .attributes) (decidedOf x (e .number) (e .code))
 wantsStatus x (Unreadable fault) = true
 wantsStatus x TooLong = true
 
