@@ -1,6 +1,6 @@
 -- The rules give each reason exactly on its condition.
-use Prim.Native.Nat.{ℕ, _%_, _≤_}
-use mathlib.Core.Path.{_≡_, refl, sym, ap, subst, _∙_}
+use Prim.Native.Nat.{ℕ, _%_}
+use mathlib.Core.Path.{_≡_, refl, subst}
 use mathlib.Core.List.{List, [], _∷_, _++_}
 use mathlib.Core.Bool.{Bool, true, false, cond, not, _&&_, _||_}
 use native.Mathlib.Omega.{arith}
@@ -30,6 +30,7 @@ use Rattle.call.specs.declared.Settled.{Settled}
 use Rattle.call.specs.Due.{settledBy, settled}
 use Rattle.call.specs.Events.{seenMessage, seenOf}
 use Rattle.call.specs.Reasons.{reasonNumber}
+use Rattle.call.proofs.Reasons.{same-reason, numbered}
 use Rattle.call.specs.Step.{ignored, noStep, reportedWith, statusTold, parametersSet, carriedOut, stepBy}
 use Rattle.received.specs.Received.{transactionIs, typeCause, askedOf, isOther}
 use Rattle.received.specs.Due.{understoodDue, readingDue, dueOf}
@@ -41,32 +42,6 @@ split true yes-way no-way = yes-way refl
 split false yes-way no-way = no-way refl
 
 -- ---- the first of the reasons that hold
-
-abbrev reasonWith : ℕ → Reason
-reasonWith n =
-    cond (eqb n 1) NoCall (cond (eqb n 2) TooShort (cond (eqb n 3) OtherProtocol (cond (eqb n 4) TransactionMismatch (cond (eqb n 5) OtherIdentity CommFalse))))
-
-with-number : (reason : Reason) → reasonWith (reasonNumber reason) ≡ reason
-unfolding reasonNumber
-with-number NoCall = refl
-with-number TooShort = refl
-with-number OtherProtocol = refl
-with-number TransactionMismatch = refl
-with-number OtherIdentity = refl
-with-number CommFalse = refl
-
--- Two reasons have two numbers, and none has 0.
-pub same-reason : (a b : Reason) → reasonNumber a ≡ reasonNumber b → a ≡ b
-same-reason a b e = sym (with-number a) ∙ ap reasonWith e ∙ with-number b
-
-pub numbered : (reason : Reason) → (1 ≤ reasonNumber reason) × (reasonNumber reason ≤ 6)
-unfolding reasonNumber
-numbered NoCall = (omega arith, omega arith)
-numbered TooShort = (omega arith, omega arith)
-numbered OtherProtocol = (omega arith, omega arith)
-numbered TransactionMismatch = (omega arith, omega arith)
-numbered OtherIdentity = (omega arith, omega arith)
-numbered CommFalse = (omega arith, omega arith)
 
 module _ (holds : Reason → Bool) where
   -- No reason of a list holds.
