@@ -6,7 +6,6 @@ use mathlib.Core.List.{List, []}
 use lib.Dec.{eqb}
 use borrow.Author.Tests.{eqb-true}
 use Rattle.octets.proofs.Choice.{never}
-use Rattle.octets.proofs.Rows.{at-rows}
 use Rattle.message.specs.declared.Reference.{Reference}
 use Rattle.context.specs.declared.Context.{Context}
 use Rattle.transitions.specs.declared.Send.{Send}
@@ -32,8 +31,6 @@ use Rattle.radio.proofs.Numbers.{NoMessage, no-message}
 use Rattle.log_data.specs.Reading.{carriesCall, noReference}
 use Rattle.verdict.specs.Table.{GivenEvent, stepped}
 use Rattle.verdict.specs.Entries.{callReference, carriedBy}
-
--- ---- events and messages
 
 -- ---- only the answer to a message copies it
 
