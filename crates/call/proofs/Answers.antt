@@ -11,7 +11,7 @@ use Rattle.octets.proofs.Choice.{at-cond}
 use Rattle.codes.specs.Attributes.{parametersOf}
 use Rattle.context.specs.declared.Context.{Context}
 use Rattle.fitness.specs.Fitness.{Fitness, consistentBy}
-use Rattle.fitness.specs.First.{firstFitness}
+use Rattle.fitness.specs.Tables.{firstFitness}
 use Rattle.transitions.specs.declared.Send.{Send}
 use Rattle.transitions.specs.declared.Send.the-variants.{Nothing}
 use Rattle.transitions.specs.declared.Decision.{Decision}

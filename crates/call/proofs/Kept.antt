@@ -26,7 +26,7 @@ use Rattle.context.specs.declared.Context.{Context}
 use Rattle.context.specs.States.{same}
 use Rattle.context.specs.Context.{entering, cleared}
 use Rattle.fitness.specs.Fitness.{Fitness, consistentBy, timersFitBy, fitBy}
-use Rattle.fitness.specs.First.{firstFitness, consistent, fitOf}
+use Rattle.fitness.specs.Tables.{firstFitness, consistent, fitOf}
 use Rattle.context.proofs.States.{same-state}
 use Rattle.context.proofs.Whole.{and-right, if-so}
 use Rattle.fitness.proofs.Fit.{fit-consistent, fit-value, fit-timers, fit-made}

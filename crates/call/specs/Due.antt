@@ -3,7 +3,7 @@ use Prim.Native.Nat.{ℕ}
 use mathlib.Core.List.{List}
 use Rattle.context.specs.declared.Context.{Context}
 use Rattle.fitness.specs.Fitness.{Fitness}
-use Rattle.fitness.specs.First.{firstFitness}
+use Rattle.fitness.specs.Tables.{firstFitness}
 use Rattle.transitions.specs.Table.{Row, stepTable}
 use Rattle.call.specs.declared.Due.{Due}
 use Rattle.call.specs.declared.Due.the-variants.{Steps, Ignored, Reported, Refused}

@@ -1,6 +1,6 @@
 // The step of a call, by value: what the step table's row for an event brings about, and what else befalls what happens.
 ghost use mathlib.Core.Path.{_≡_};
-ghost use Rattle.fitness.specs.First.{firstFitness};
+ghost use Rattle.fitness.specs.Tables.{firstFitness};
 ghost use Rattle.call.specs.Due.{settled};
 ghost use Rattle.call.specs.Step.{parametersAfter, valueAfter, referenceAfter, afterwards, noStep, ignored, reportedWith, statusTold, parametersSet, carriedOut, stepValue};
 use call::Due;

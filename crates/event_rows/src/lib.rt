@@ -11,6 +11,7 @@ use transitions::Decision;
 use transitions::Send;
 use transitions::Stores;
 use transitions::Taken;
+use version::Table;
 
 // 1, set-up request.
 const SET_UP: Decision = Decision::Take(Taken {
@@ -163,8 +164,8 @@ fn where_true(holds: bool, taken: Decision) -> Decision
 }
 
 // No channel in U6.
-fn no_channel_in_u6(context: Context) -> Decision
-    ensures { λ r. ⌜ r ≡ happenedIn stepTable U6 context 12 ⌝ }
+fn no_channel_in_u6(table: Table, context: Context) -> Decision
+    ensures { λ r. ⌜ r ≡ happenedIn (stepTable table) U6 context 12 ⌝ }
 {
     let timers = context.timers;
     if timers.nochannel {
@@ -173,8 +174,8 @@ fn no_channel_in_u6(context: Context) -> Decision
     NO_CHANNEL
 }
 
-fn in_u0(context: Context, number: u8) -> Decision
-    ensures { λ r. ⌜ r ≡ happenedIn stepTable U0 context number ⌝ }
+fn in_u0(table: Table, context: Context, number: u8) -> Decision
+    ensures { λ r. ⌜ r ≡ happenedIn (stepTable table) U0 context number ⌝ }
 {
     match number {
         1 => SET_UP,
@@ -184,8 +185,8 @@ fn in_u0(context: Context, number: u8) -> Decision
     }
 }
 
-fn in_u0p(context: Context, number: u8) -> Decision
-    ensures { λ r. ⌜ r ≡ happenedIn stepTable U0p context number ⌝ }
+fn in_u0p(table: Table, context: Context, number: u8) -> Decision
+    ensures { λ r. ⌜ r ≡ happenedIn (stepTable table) U0p context number ⌝ }
 {
     match number {
         6 => ESTABLISHED,
@@ -198,8 +199,8 @@ fn in_u0p(context: Context, number: u8) -> Decision
     }
 }
 
-fn in_u1(context: Context, number: u8) -> Decision
-    ensures { λ r. ⌜ r ≡ happenedIn stepTable U1 context number ⌝ }
+fn in_u1(table: Table, context: Context, number: u8) -> Decision
+    ensures { λ r. ⌜ r ≡ happenedIn (stepTable table) U1 context number ⌝ }
 {
     let parameters = context.parameters;
     let timers = context.timers;
@@ -214,8 +215,8 @@ fn in_u1(context: Context, number: u8) -> Decision
     }
 }
 
-fn in_u2(context: Context, number: u8) -> Decision
-    ensures { λ r. ⌜ r ≡ happenedIn stepTable U2 context number ⌝ }
+fn in_u2(table: Table, context: Context, number: u8) -> Decision
+    ensures { λ r. ⌜ r ≡ happenedIn (stepTable table) U2 context number ⌝ }
 {
     let parameters = context.parameters;
     match number {
@@ -227,8 +228,8 @@ fn in_u2(context: Context, number: u8) -> Decision
     }
 }
 
-fn in_u3(context: Context, number: u8) -> Decision
-    ensures { λ r. ⌜ r ≡ happenedIn stepTable U3 context number ⌝ }
+fn in_u3(table: Table, context: Context, number: u8) -> Decision
+    ensures { λ r. ⌜ r ≡ happenedIn (stepTable table) U3 context number ⌝ }
 {
     match number {
         3 => JOIN,
@@ -239,8 +240,8 @@ fn in_u3(context: Context, number: u8) -> Decision
     }
 }
 
-fn in_u4(context: Context, number: u8) -> Decision
-    ensures { λ r. ⌜ r ≡ happenedIn stepTable U4 context number ⌝ }
+fn in_u4(table: Table, context: Context, number: u8) -> Decision
+    ensures { λ r. ⌜ r ≡ happenedIn (stepTable table) U4 context number ⌝ }
 {
     match number {
         11 => RECEIVE_MODE_ENTERED,
@@ -252,8 +253,8 @@ fn in_u4(context: Context, number: u8) -> Decision
     }
 }
 
-fn in_u5(context: Context, number: u8) -> Decision
-    ensures { λ r. ⌜ r ≡ happenedIn stepTable U5 context number ⌝ }
+fn in_u5(table: Table, context: Context, number: u8) -> Decision
+    ensures { λ r. ⌜ r ≡ happenedIn (stepTable table) U5 context number ⌝ }
 {
     let timers = context.timers;
     match number {
@@ -265,12 +266,12 @@ fn in_u5(context: Context, number: u8) -> Decision
     }
 }
 
-fn in_u6(context: Context, number: u8) -> Decision
-    ensures { λ r. ⌜ r ≡ happenedIn stepTable U6 context number ⌝ }
+fn in_u6(table: Table, context: Context, number: u8) -> Decision
+    ensures { λ r. ⌜ r ≡ happenedIn (stepTable table) U6 context number ⌝ }
 {
     let timers = context.timers;
     match number {
-        12 => no_channel_in_u6(context),
+        12 => no_channel_in_u6(table, context),
         13 => CHANNEL_AVAILABLE,
         17 => where_true(timers.nochannel, ENDS_INFORMING_ABORTING),
         5 => ENDS_RELEASING,
@@ -281,28 +282,28 @@ fn in_u6(context: Context, number: u8) -> Decision
 }
 
 // An event that is no message, in the context's state.
-fn happened(context: Context, number: u8) -> Decision
-    ensures { λ r. ⌜ r ≡ happenedIn stepTable (context .state) context number ⌝ }
+fn happened(table: Table, context: Context, number: u8) -> Decision
+    ensures { λ r. ⌜ r ≡ happenedIn (stepTable table) (context .state) context number ⌝ }
 {
     let state = context.state;
     match state {
-        State::U0 => in_u0(context, number),
-        State::U0p => in_u0p(context, number),
-        State::U1 => in_u1(context, number),
-        State::U2 => in_u2(context, number),
-        State::U3 => in_u3(context, number),
-        State::U4 => in_u4(context, number),
-        State::U5 => in_u5(context, number),
-        State::U6 => in_u6(context, number),
+        State::U0 => in_u0(table, context, number),
+        State::U0p => in_u0p(table, context, number),
+        State::U1 => in_u1(table, context, number),
+        State::U2 => in_u2(table, context, number),
+        State::U3 => in_u3(table, context, number),
+        State::U4 => in_u4(table, context, number),
+        State::U5 => in_u5(table, context, number),
+        State::U6 => in_u6(table, context, number),
     }
 }
 
 // What the table says in the context's state.
-pub fn decide(context: Context, number: u8, code: u8) -> Decision
-    ensures { λ r. ⌜ r ≡ decidedOf context number code ⌝ }
+pub fn decide(table: Table, context: Context, number: u8, code: u8) -> Decision
+    ensures { λ r. ⌜ r ≡ decidedOf table context number code ⌝ }
 {
     if number == 18 {
-        return message_rows::decide(context, code);
+        return message_rows::decide(table, context, code);
     }
-    happened(context, number)
+    happened(table, context, number)
 }

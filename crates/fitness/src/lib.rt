@@ -1,23 +1,24 @@
-// Which contexts are fit, and which parameters are consistent with a state.
+// Which contexts are fit, and which parameters are consistent with a state, by a step table.
 ghost use mathlib.Core.Path.{_≡_};
 ghost use mathlib.Core.Bool.{false};
 ghost use Rattle.fitness.specs.Fitness.{consistentBy, timersFitBy, isCleared, fitBy};
-ghost use Rattle.fitness.specs.First.{firstFitness};
+ghost use Rattle.fitness.specs.Tables.{fitnessOf};
 use codes::attributes::Parameters;
 use codes::state::State;
 use context::Context;
 use timer::Timers;
+use version::Table;
 
 // Whether the parameters are consistent with the state, 6.1.2.1.11.
-pub fn is_consistent(state: State, parameters: Parameters) -> bool
-    ensures { λ r. ⌜ r ≡ consistentBy firstFitness state parameters ⌝ }
+pub fn is_consistent(table: Table, state: State, parameters: Parameters) -> bool
+    ensures { λ r. ⌜ r ≡ consistentBy (fitnessOf table) state parameters ⌝ }
 {
-    fits_state(state, parameters.orig, parameters.comm)
+    fits_state(table, state, parameters.orig, parameters.comm)
 }
 
 // The same of the two parameters that a state asks about. They come one by one, since four that are passed as one are first put together.
-fn fits_state(state: State, orig: bool, comm: bool) -> bool
-    ensures { λ r. ⌜ r ≡ consistentBy firstFitness state (record { orig = orig; comm = comm; datt = false; uatt = false }) ⌝ }
+fn fits_state(table: Table, state: State, orig: bool, comm: bool) -> bool
+    ensures { λ r. ⌜ r ≡ consistentBy (fitnessOf table) state (record { orig = orig; comm = comm; datt = false; uatt = false }) ⌝ }
 {
     match state {
         State::U0 => !comm,
@@ -32,8 +33,8 @@ fn fits_state(state: State, orig: bool, comm: bool) -> bool
 }
 
 // Whether the timers that run are those of the state.
-fn timers_fit(state: State, timers: Timers) -> bool
-    ensures { λ r. ⌜ r ≡ timersFitBy firstFitness state timers ⌝ }
+fn timers_fit(table: Table, state: State, timers: Timers) -> bool
+    ensures { λ r. ⌜ r ≡ timersFitBy (fitnessOf table) state timers ⌝ }
 {
     match state {
         State::U0 => !timers.mmest & (!timers.term & (!timers.connreq & !timers.nochannel)),
@@ -62,19 +63,19 @@ fn is_cleared(context: Context) -> bool
 }
 
 // Whether the context is one that a call can be in. What U0 alone asks is looked at in U0 alone.
-pub fn is_fit(context: Context) -> bool
-    ensures { λ r. ⌜ r ≡ fitBy firstFitness context ⌝ }
+pub fn is_fit(table: Table, context: Context) -> bool
+    ensures { λ r. ⌜ r ≡ fitBy (fitnessOf table) context ⌝ }
 {
     let state = context.state;
     let timers = context.timers;
-    if !fits_state(state, context.parameters.orig, context.parameters.comm) {
+    if !fits_state(table, state, context.parameters.orig, context.parameters.comm) {
         return false;
     }
     if 6 < context.value {
         return false;
     }
     if context::state_number(state) == 0 {
-        return is_cleared(context) & timers_fit(state, timers);
+        return is_cleared(context) & timers_fit(table, state, timers);
     }
-    timers_fit(state, timers)
+    timers_fit(table, state, timers)
 }

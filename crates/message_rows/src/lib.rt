@@ -11,6 +11,7 @@ use transitions::Decision;
 use transitions::Send;
 use transitions::Stores;
 use transitions::Taken;
+use version::Table;
 
 // CONNECT: 32 if in U1 with T_MM-est, else 0.
 const CONNECTED: Decision = Decision::Take(Taken {
@@ -59,8 +60,8 @@ const INCOMPATIBLE: Decision = Decision::Report(98);
 const UNKNOWN: Decision = Decision::Report(97);
 
 // CONNECT in U1.
-fn connected_in_u1(context: Context) -> Decision
-    ensures { λ r. ⌜ r ≡ heardIn stepTable U1 context CONNECT ⌝ }
+fn connected_in_u1(table: Table, context: Context) -> Decision
+    ensures { λ r. ⌜ r ≡ heardIn (stepTable table) U1 context CONNECT ⌝ }
 {
     let timers = context.timers;
     if timers.mmest {
@@ -70,8 +71,8 @@ fn connected_in_u1(context: Context) -> Decision
 }
 
 // A message in U0.p.
-fn heard_in_u0p(context: Context, code: u8) -> Decision
-    ensures { λ r. ⌜ r ≡ heardIn stepTable U0p context code ⌝ }
+fn heard_in_u0p(table: Table, context: Context, code: u8) -> Decision
+    ensures { λ r. ⌜ r ≡ heardIn (stepTable table) U0p context code ⌝ }
 {
     match code {
         message_type::IMMEDIATE_SETUP => INCOMPATIBLE,
@@ -88,13 +89,13 @@ fn heard_in_u0p(context: Context, code: u8) -> Decision
 }
 
 // A message in U1.
-fn heard_in_u1(context: Context, code: u8) -> Decision
-    ensures { λ r. ⌜ r ≡ heardIn stepTable U1 context code ⌝ }
+fn heard_in_u1(table: Table, context: Context, code: u8) -> Decision
+    ensures { λ r. ⌜ r ≡ heardIn (stepTable table) U1 context code ⌝ }
 {
     match code {
         message_type::IMMEDIATE_SETUP => INCOMPATIBLE,
         message_type::SETUP => INCOMPATIBLE,
-        message_type::CONNECT => connected_in_u1(context),
+        message_type::CONNECT => connected_in_u1(table, context),
         message_type::TERMINATION => TERMINATED,
         message_type::TERMINATION_REQUEST => INCOMPATIBLE,
         message_type::TERMINATION_REJECT => INCOMPATIBLE,
@@ -106,8 +107,8 @@ fn heard_in_u1(context: Context, code: u8) -> Decision
 }
 
 // A message in U5.
-fn heard_in_u5(context: Context, code: u8) -> Decision
-    ensures { λ r. ⌜ r ≡ heardIn stepTable U5 context code ⌝ }
+fn heard_in_u5(table: Table, context: Context, code: u8) -> Decision
+    ensures { λ r. ⌜ r ≡ heardIn (stepTable table) U5 context code ⌝ }
 {
     match code {
         message_type::IMMEDIATE_SETUP => INCOMPATIBLE,
@@ -124,8 +125,8 @@ fn heard_in_u5(context: Context, code: u8) -> Decision
 }
 
 // A message in U2, and so in U3, U4 and U6.
-fn heard_elsewhere(context: Context, code: u8) -> Decision
-    ensures { λ r. ⌜ r ≡ heardIn stepTable U2 context code ⌝ }
+fn heard_elsewhere(table: Table, context: Context, code: u8) -> Decision
+    ensures { λ r. ⌜ r ≡ heardIn (stepTable table) U2 context code ⌝ }
 {
     match code {
         message_type::IMMEDIATE_SETUP => INCOMPATIBLE,
@@ -142,18 +143,18 @@ fn heard_elsewhere(context: Context, code: u8) -> Decision
 }
 
 // What the table says of a message of a type in the context's state. It is asked before a message is read, and by itself it is small.
-pub fn decide(context: Context, code: u8) -> Decision
-    ensures { λ r. ⌜ r ≡ decidedOf context 18 code ⌝ }
+pub fn decide(table: Table, context: Context, code: u8) -> Decision
+    ensures { λ r. ⌜ r ≡ decidedOf table context 18 code ⌝ }
 {
     let state = context.state;
     match state {
         State::U0 => Decision::Ignore,
-        State::U0p => heard_in_u0p(context, code),
-        State::U1 => heard_in_u1(context, code),
-        State::U2 => heard_elsewhere(context, code),
-        State::U3 => heard_elsewhere(context, code),
-        State::U4 => heard_elsewhere(context, code),
-        State::U5 => heard_in_u5(context, code),
-        State::U6 => heard_elsewhere(context, code),
+        State::U0p => heard_in_u0p(table, context, code),
+        State::U1 => heard_in_u1(table, context, code),
+        State::U2 => heard_elsewhere(table, context, code),
+        State::U3 => heard_elsewhere(table, context, code),
+        State::U4 => heard_elsewhere(table, context, code),
+        State::U5 => heard_in_u5(table, context, code),
+        State::U6 => heard_elsewhere(table, context, code),
     }
 }

@@ -9,8 +9,8 @@ use borrow.Author.Tests.{leb-true}
 use Rattle.codes.specs.declared.state.State.the-variants.{U0}
 use Rattle.context.specs.declared.Context.{Context}
 use Rattle.context.specs.Context.{cleared}
-use Rattle.fitness.specs.First.{fitOf}
-use Rattle.fitness.proofs.First.{fit-u0, fit-value}
+use Rattle.fitness.specs.Tables.{fitOf}
+use Rattle.fitness.proofs.Tables.{fit-u0, fit-value}
 use Rattle.transitions.specs.declared.Send.{Send}
 use Rattle.transitions.specs.declared.Send.the-variants.{Nothing}
 use Rattle.call.specs.declared.Settled.{Settled}

@@ -10,8 +10,8 @@ use borrow.Author.Tests.{eq-eqb, ne-eqb, eqb-true, leb-true}
 use Rattle.octets.proofs.Choice.{at-cond}
 use Rattle.message.specs.declared.Reference.{Reference}
 use Rattle.context.specs.declared.Context.{Context}
-use Rattle.fitness.specs.First.{fitOf}
-use Rattle.fitness.proofs.First.{fit-value}
+use Rattle.fitness.specs.Tables.{fitOf}
+use Rattle.fitness.proofs.Tables.{fit-value}
 use Rattle.call.specs.declared.Due.{Due}
 use Rattle.call.specs.declared.Due.the-variants.{Steps, Refused}
 use Rattle.call.specs.declared.Event.{Event}

@@ -7,7 +7,7 @@ use lib.Dec.{eqb}
 use Rattle.octets.specs.Rows.{rows}
 use Rattle.message.specs.declared.Reference.{Reference}
 use Rattle.context.specs.declared.Context.{Context}
-use Rattle.fitness.specs.First.{fitOf}
+use Rattle.fitness.specs.Tables.{fitOf}
 use Rattle.call.specs.declared.Due.{Due}
 use Rattle.call.specs.declared.Due.the-variants.{Steps, Refused}
 use Rattle.call.specs.declared.Event.the-variants.{

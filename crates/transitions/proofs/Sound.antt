@@ -9,9 +9,10 @@ use Rattle.codes.specs.declared.state.State.the-variants.{U0}
 use Rattle.timer.specs.Timers.{isOn, timerNumber, runningAmong, withTimer}
 use Rattle.context.specs.States.{same}
 use Rattle.fitness.specs.Fitness.{Fitness, timersFitBy}
-use Rattle.fitness.specs.First.{firstFitness}
+use Rattle.version.specs.declared.Table.{Table}
+use Rattle.fitness.specs.Tables.{fitnessOf}
 use Rattle.fitness.proofs.Sound.{Sound as SoundFitness}
-use Rattle.fitness.proofs.First.{first-sound}
+use Rattle.fitness.proofs.Tables.{fitness-sound as of-fitness}
 use Rattle.transitions.specs.declared.Send.{Send}
 use Rattle.transitions.specs.declared.Send.the-variants.{Nothing, ImmediateSetup, Setup, TerminationRequest, Status, ErrorStatus}
 use Rattle.transitions.specs.Table.{
@@ -95,11 +96,11 @@ pub record Sound (fitness : Fitness) (most : ℕ) (table : List Row) : Type 0 wh
   pub actions-few : passes (atMost most) table ≡ true
   pub sent-plain : passes sendsPlain table ≡ true
 
--- Document 01's rows are sound, and their actions are at most 63: that is all six of them, and the most that a log takes.
-pub document-01 : Sound firstFitness 63 stepTable
-unfolding stepTable firstFitness timersFitBy runningAmong withTimer
-document-01 = record {
-  fitness-sound = first-sound;
+-- The rows of each table are sound, and their actions are at most 63: that is all six of them, and the most that a log takes.
+pub rows-sound : (table : Table) → Sound (fitnessOf table) 63 (stepTable table)
+unfolding stepTable fitnessOf timersFitBy runningAmong withTimer
+rows-sound table = record {
+  fitness-sound = of-fitness table;
   effects-single = refl;
   types-known = refl;
   fit-kept = refl;

@@ -18,6 +18,7 @@ use Rattle.codes.specs.MessageTypes.{
   SET-PARAMETER,
 }
 use Rattle.timer.specs.declared.Timers.{Timers}
+use Rattle.version.specs.declared.Table.{Table}
 use Rattle.context.specs.declared.Context.{Context}
 use Rattle.context.specs.States.{same}
 use Rattle.timer.specs.declared.Timer.{Timer}
@@ -90,8 +91,8 @@ U1-U2-ORIG = (U1, ORIG) ∷ (U2, ORIG) ∷ []
 
 -- Actions: 1 inform higher layers, 2 request an MM connection, 4 request group receive mode, 8 abort, 16 release,
 -- 32 tell lower layers that the MM connection exists implicitly. "Events 1, 2 and 10 carry a transaction value and a reference, stored when taken."
-unfoldable pub stepTable : List Row
-stepTable =
+unfoldable pub stepTable : Table → List Row
+stepTable table =
     row (each (U0 ∷ [])) (event 1) (to U0p) (act 2) (set MmEst ∷ store-value-and-reference ∷ []) ∷
     row (each (U0 ∷ [])) (event 2) (to U1) (act 0) (send ImmediateSetup ∷ set MmEst ∷ store-value-and-reference ∷ []) ∷
     row (each (U0p ∷ [])) (event 6) (to U1) (act 0) (send Setup ∷ stop MmEst ∷ []) ∷
@@ -211,9 +212,9 @@ decidedIn table s x number code = cond (eqb number 18) (heardIn table s x code) 
 unfoldable pub decidedBy : List Row → Context → ℕ → ℕ → Decision
 decidedBy table x number code = decidedIn table (x .state) x number code
 
--- Document 01's table.
-abbrev pub decidedOf : Context → ℕ → ℕ → Decision
-decidedOf = decidedBy stepTable
+-- By a step table's rows.
+abbrev pub decidedOf : Table → Context → ℕ → ℕ → Decision
+decidedOf table = decidedBy (stepTable table)
 
 -- The number of the timer that is set by what is decided, 0 for none.
 abbrev pub setBy : Decision → ℕ

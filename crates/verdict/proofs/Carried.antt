@@ -12,7 +12,7 @@ use Rattle.transitions.specs.declared.Send.{Send}
 use Rattle.transitions.specs.declared.Send.the-variants.{Nothing, ImmediateSetup, Setup, TerminationRequest, Status, ErrorStatus}
 use Rattle.transitions.specs.declared.Decision.{Decision}
 use Rattle.transitions.specs.declared.Decision.the-variants.{Take, NoStep, Ignore, Report, TellStatus, SetParameters}
-use Rattle.fitness.specs.First.{firstFitness}
+use Rattle.fitness.specs.Tables.{firstFitness}
 use Rattle.transitions.specs.Table.{stepTable}
 use Rattle.transitions.proofs.Sound.{isPlain, document-01}
 use Rattle.transitions.proofs.Decided.{Plain, event-plain as by-rows}

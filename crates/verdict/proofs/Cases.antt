@@ -5,7 +5,7 @@ use mathlib.Core.List.{List, [], _∷_, _++_}
 use Rattle.codes.specs.Attributes.{weighs}
 use Rattle.context.specs.Context.{startRow, entering, cleared}
 use Rattle.fitness.specs.Fitness.{consistentBy, timersFitBy, isCleared, fitBy}
-use Rattle.fitness.specs.First.{firstFitness}
+use Rattle.fitness.specs.Tables.{firstFitness}
 use Rattle.timer.specs.Timers.{runningAmong, expiryOf, lengthOf, withTimer}
 use Rattle.transitions.specs.Table.{stepTable, heardIn, happenedIn, decidedIn, decidedBy}
 use Rattle.call.specs.Due.{settledBy}

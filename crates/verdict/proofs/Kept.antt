@@ -7,8 +7,8 @@ use lib.Dec.{leb}
 use borrow.Author.Tests.{le-ltb}
 use Rattle.octets.proofs.Choice.{never}
 use Rattle.context.specs.declared.Context.{Context}
-use Rattle.fitness.specs.First.{fitOf}
-use Rattle.fitness.proofs.First.{cleared-fit}
+use Rattle.fitness.specs.Tables.{fitOf}
+use Rattle.fitness.proofs.Tables.{cleared-fit}
 use Rattle.reply.specs.declared.Own.{Own}
 use Rattle.step_arguments.specs.Arguments.{argumentRefusal}
 use Rattle.radio.specs.Step.{refusalOf, Reaction, stepOf}

@@ -8,7 +8,7 @@ use lib.ListN.{length}
 use borrow.Author.Tests.{not-true, eqb-true, eqb-false, ne-eqb}
 use Rattle.octets.proofs.Choice.{never}
 use Rattle.context.specs.declared.Context.{Context}
-use Rattle.fitness.specs.First.{firstFitness, fitOf}
+use Rattle.fitness.specs.Tables.{firstFitness, fitOf}
 use Rattle.context.specs.Running.{runs}
 use Rattle.context.proofs.Whole.{and-left, and-right}
 use Rattle.transitions.specs.Table.{stepTable}

@@ -22,4 +22,4 @@ in-u1-spec =
     (λ c. rw (c .match .keys5))
     (λ c. rw (c .match .keys6))
     (λ c. rw (c .match .keys7))
-    (λ c. no-row (c .before .before .before .args .number) NoStep (eventsIn U1 (c .before .before .before .args .context) stepTable) (c .match .rest .0)))
+    (λ c. no-row (c .before .before .before .args .number) NoStep (eventsIn U1 (c .before .before .before .args .context) (stepTable (c .before .before .before .args .table))) (c .match .rest .0)))

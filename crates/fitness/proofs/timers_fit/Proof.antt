@@ -1,12 +1,12 @@
 -- `timers_fit` meets its contract, state by state.
 use borrow.Author.Needs.{needs}
 use Rattle.fitness.specs.Fitness.{timersFitBy}
-use Rattle.fitness.specs.First.{firstFitness}
+use Rattle.fitness.specs.Tables.{fitnessOf}
 use Rattle.fitness.proofs.timers_fit.Statement.{statement}
 use Rattle.fitness.proofs.timers_fit.Tie as tie
 
 pub timers-fit-spec : {M : Type 1} → statement M
-unfolding timersFitBy firstFitness
+unfolding timersFitBy fitnessOf
 timers-fit-spec =
     tie.close
     (tie.spec

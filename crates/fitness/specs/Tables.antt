@@ -1,4 +1,4 @@
--- Document 01, "The context": what it says of fitness, as data.
+-- Document 01, "The context": what each step table says of fitness, as data.
 use mathlib.Core.List.{[], _∷_}
 use mathlib.Core.Bool.{Bool}
 use Rattle.codes.specs.declared.state.State.{State}
@@ -7,11 +7,12 @@ use Rattle.codes.specs.declared.attributes.Parameters.{Parameters}
 use Rattle.timer.specs.declared.Timer.the-variants.{MmEst, Term, ConnReq, NoChannel}
 use Rattle.timer.specs.declared.Timers.{Timers}
 use Rattle.context.specs.declared.Context.{Context}
+use Rattle.version.specs.declared.Table.{Table}
 use Rattle.fitness.specs.Fitness.{Fitness, always, optionally, ORIG, COMM, consistentBy, timersFitBy, fitBy}
 
 -- The table of timers, its last column; and 6.1.2.1.11.
-unfoldable pub firstFitness : Fitness
-firstFitness = record {
+unfoldable pub fitnessOf : Table → Fitness
+fitnessOf table = record {
   timers =
       (MmEst, (U0p, always) ∷ (U1, optionally) ∷ []) ∷
       (Term, (U5, optionally) ∷ []) ∷
@@ -24,12 +25,12 @@ firstFitness = record {
       [];
 }
 
--- Consistent and fit, where nothing else is said.
-abbrev pub consistent : State → Parameters → Bool
-consistent s p = consistentBy firstFitness s p
+-- Consistent and fit, by a table.
+abbrev pub consistent : Table → State → Parameters → Bool
+consistent table s p = consistentBy (fitnessOf table) s p
 
-abbrev pub timersFit : State → Timers → Bool
-timersFit s t = timersFitBy firstFitness s t
+abbrev pub timersFit : Table → State → Timers → Bool
+timersFit table s t = timersFitBy (fitnessOf table) s t
 
-abbrev pub fitOf : Context → Bool
-fitOf x = fitBy firstFitness x
+abbrev pub fitOf : Table → Context → Bool
+fitOf table x = fitBy (fitnessOf table) x
