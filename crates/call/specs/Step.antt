@@ -11,7 +11,8 @@ use Rattle.context.specs.declared.Context.{Context}
 use Rattle.context.specs.States.{same}
 use Rattle.context.specs.Context.{entering, cleared}
 use Rattle.fitness.specs.Fitness.{Fitness, consistentBy}
-use Rattle.fitness.specs.Tables.{firstFitness}
+use Rattle.version.specs.declared.Table.{Table}
+use Rattle.fitness.specs.Tables.{fitnessOf}
 use Rattle.transitions.specs.declared.Send.{Send}
 use Rattle.transitions.specs.declared.Send.the-variants as Send
 use Rattle.transitions.specs.declared.Stores.{Stores}
@@ -97,8 +98,8 @@ carriedOut fitness x SetParameters e = parametersSet fitness (e .attributes) x
 
 -- The step of an event by a table's rows, and what it says of fitness: its row for the event, carried out.
 unfoldable pub stepBy : Fitness → List Row → Context → Event → Settled
-stepBy fitness table x event = let e : Seen = seenOf event in carriedOut fitness x (decidedBy table x (e .number) (e .code)) e
+stepBy fitness rows x event = let e : Seen = seenOf event in carriedOut fitness x (decidedBy rows x (e .number) (e .code)) e
 
--- By document 01's.
-abbrev pub stepValue : Context → Event → Settled
-stepValue = stepBy firstFitness stepTable
+-- By a step table.
+abbrev pub stepValue : Table → Context → Event → Settled
+stepValue table = stepBy (fitnessOf table) (stepTable table)

@@ -1,6 +1,6 @@
 // The step of a call, by value: what the step table's row for an event brings about, and what else befalls what happens.
 ghost use mathlib.Core.Path.{_≡_};
-ghost use Rattle.fitness.specs.Tables.{firstFitness};
+ghost use Rattle.fitness.specs.Tables.{fitnessOf};
 ghost use Rattle.call.specs.Due.{settled};
 ghost use Rattle.call.specs.Step.{parametersAfter, valueAfter, referenceAfter, afterwards, noStep, ignored, reportedWith, statusTold, parametersSet, carriedOut, stepValue};
 use call::Due;
@@ -16,6 +16,7 @@ use transitions::Decision;
 use transitions::Send;
 use transitions::Stores;
 use transitions::Taken;
+use version::Table;
 
 // Entering a state sets its row; a step that stays in its state keeps the parameters.
 fn parameters_after(context: Context, next: State) -> Parameters
@@ -143,14 +144,14 @@ fn tell_status(context: Context) -> Settled
 }
 
 // SET PARAMETER: consistent values are set, inconsistent ones are reported with the cause that 6.5.1.2 names.
-fn set_parameters(context: Context, attributes: u8) -> Settled
-    ensures { λ r. ⌜ r ≡ parametersSet firstFitness attributes context ⌝ }
+fn set_parameters(table: Table, context: Context, attributes: u8) -> Settled
+    ensures { λ r. ⌜ r ≡ parametersSet (fitnessOf table) attributes context ⌝ }
 {
     let state = context.state;
     let timers = context.timers;
     let reference = context.reference;
     let parameters = codes::attributes::parameters_of(attributes);
-    if fitness::is_consistent(state, parameters) {
+    if fitness::is_consistent(table, state, parameters) {
         let set = Context {
             state,
             parameters,
@@ -170,8 +171,8 @@ fn set_parameters(context: Context, attributes: u8) -> Settled
 }
 
 // What the table's decision brings about.
-fn carry_out(context: Context, decision: Decision, seen: Seen) -> Settled
-    ensures { λ r. ⌜ r ≡ carriedOut firstFitness context decision seen ⌝ }
+fn carry_out(table: Table, context: Context, decision: Decision, seen: Seen) -> Settled
+    ensures { λ r. ⌜ r ≡ carriedOut (fitnessOf table) context decision seen ⌝ }
 {
     match decision {
         Decision::Take(taken) => {
@@ -189,25 +190,25 @@ fn carry_out(context: Context, decision: Decision, seen: Seen) -> Settled
         Decision::Ignore => ignore(context, Reason::NoCall),
         Decision::Report(cause) => report(context, cause),
         Decision::TellStatus => tell_status(context),
-        Decision::SetParameters => set_parameters(context, seen.attributes),
+        Decision::SetParameters => set_parameters(table, context, seen.attributes),
     }
 }
 
 // The step: the table's row for the event, carried out.
-pub fn step(context: Context, event: Event) -> Settled
-    ensures { λ r. ⌜ r ≡ stepValue context event ⌝ }
+pub fn step(table: Table, context: Context, event: Event) -> Settled
+    ensures { λ r. ⌜ r ≡ stepValue table context event ⌝ }
 {
     let seen = call::seen_event(event);
-    let decision = event_rows::decide(context, seen.number, seen.code);
-    carry_out(context, decision, seen)
+    let decision = event_rows::decide(table, context, seen.number, seen.code);
+    carry_out(table, context, decision, seen)
 }
 
 // What is due, done. All that happens comes through here, so that the step stands in one place of a program and is built into it.
-pub fn settle(context: Context, due: Due) -> Settled
-    ensures { λ r. ⌜ r ≡ settled context due ⌝ }
+pub fn settle(table: Table, context: Context, due: Due) -> Settled
+    ensures { λ r. ⌜ r ≡ settled table context due ⌝ }
 {
     match due {
-        Due::Steps(event) => step(context, event),
+        Due::Steps(event) => step(table, context, event),
         Due::Ignored(reason) => ignore(context, reason),
         Due::Reported(cause) => report(context, cause),
         Due::Refused => refuse(context),
