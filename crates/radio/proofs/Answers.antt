@@ -7,6 +7,7 @@ use native.Mathlib.Omega.{arith}
 use lib.ListN.{length}
 use borrow.Author.Tests.{leb-true}
 use Rattle.codes.specs.declared.state.State.the-variants.{U0}
+use Rattle.version.specs.declared.Table.{Table}
 use Rattle.context.specs.declared.Context.{Context}
 use Rattle.context.specs.Context.{cleared}
 use Rattle.fitness.specs.Tables.{fitOf}
@@ -23,72 +24,74 @@ use Rattle.radio.specs.Step.{dueTo, reactedTo, Reaction, refused, reacte
 use Rattle.radio.proofs.Range.{refused-most, refused-not-1}
 use Rattle.radio.proofs.Reacting.{of-step, react-fit}
 
--- Whatever is due keeps what the answers promise.
-pub react-right : (identity : List ℕ) (x : Context) (h : Happened) (s : List ℕ) → Right 63 x (reactedTo identity x h s)
-unfolding reactedTo
-react-right identity x h s = settled-right x (dueTo identity x h s)
 
--- What a reaction's answer says: it is a number of the table, 0 to 7; any but 0 keeps the context and has no actions; any but 0 and 2 writes nothing.
--- Its actions are at most 63. Answer 1 has a reason of 1 to 6 beside it, and every other answer 0.
-pub record Honest (x : Context) (r : Reaction) : Type 0 where
-  pub numbered : r .answer ≤ 7
-  pub kept : (r .answer ≡ 0 → ⊥) → r .context ≡ x
-  pub still : (r .answer ≡ 0 → ⊥) → r .actions ≡ 0
-  pub silent : (r .answer ≡ 0 → ⊥) → (r .answer ≡ 2 → ⊥) → r .reply ≡ []
-  pub few : r .actions ≤ 63
-  pub told : r .answer ≡ 1 → (1 ≤ r .reason) × (r .reason ≤ 6)
-  pub untold : (r .answer ≡ 1 → ⊥) → r .reason ≡ 0
+module _ (table : Table) where
+  -- Whatever is due keeps what the answers promise.
+  pub react-right : (identity : List ℕ) (x : Context) (h : Happened) (s : List ℕ) → Right 63 x (reactedTo table identity x h s)
+  unfolding reactedTo
+  react-right identity x h s = settled-right table x (dueTo table identity x h s)
 
-refused-honest : (x : Context) (answer : ℕ) → answer ≤ 7 → (answer ≡ 1 → ⊥) → Honest x (refused answer x)
-refused-honest x answer most other = record {
-  numbered = most;
-  kept = λ n. refl;
-  still = λ n. refl;
-  silent = λ n m. refl;
-  few = omega arith;
-  told = λ e. absurd (other e);
-  untold = λ n. refl;
-}
+  -- What a reaction's answer says: it is a number of the table, 0 to 7; any but 0 keeps the context and has no actions; any but 0 and 2 writes nothing.
+  -- Its actions are at most 63. Answer 1 has a reason of 1 to 6 beside it, and every other answer 0.
+  pub record Honest (x : Context) (r : Reaction) : Type 0 where
+    pub numbered : r .answer ≤ 7
+    pub kept : (r .answer ≡ 0 → ⊥) → r .context ≡ x
+    pub still : (r .answer ≡ 0 → ⊥) → r .actions ≡ 0
+    pub silent : (r .answer ≡ 0 → ⊥) → (r .answer ≡ 2 → ⊥) → r .reply ≡ []
+    pub few : r .actions ≤ 63
+    pub told : r .answer ≡ 1 → (1 ≤ r .reason) × (r .reason ≤ 6)
+    pub untold : (r .answer ≡ 1 → ⊥) → r .reason ≡ 0
 
-unsent : (own : Own) (identity s : List ℕ) (x : Context) (sends : Send) → sends ≡ Nothing → replyOf own identity s x sends ≡ []
-unfolding replyOf
-unsent own identity s x sends e = rw e
+  refused-honest : (x : Context) (answer : ℕ) → answer ≤ 7 → (answer ≡ 1 → ⊥) → Honest x (refused answer x)
+  refused-honest x answer most other = record {
+    numbered = most;
+    kept = λ n. refl;
+    still = λ n. refl;
+    silent = λ n m. refl;
+    few = omega arith;
+    told = λ e. absurd (other e);
+    untold = λ n. refl;
+  }
 
-reacted-honest : (own : Own) (identity s : List ℕ) (x : Context) (t : Settled) → Right 63 x t → Honest x (reacted own identity s t)
-reacted-honest own identity s x t r = record {
-  numbered = omega (arith, r .numbered);
-  kept = r .kept;
-  still = r .still;
-  silent = λ n m. unsent own identity s (t .context) (t .sends) (r .silent n m);
-  few = r .few;
-  told = r .told;
-  untold = r .untold;
-}
+  unsent : (own : Own) (identity s : List ℕ) (x : Context) (sends : Send) → sends ≡ Nothing → replyOf own identity s x sends ≡ []
+  unfolding replyOf
+  unsent own identity s x sends e = rw e
 
--- Every call is answered 0 to 7. Answers 1 and 3 to 7 change nothing lent, and 2 keeps the context.
-pub step-honest : (own : Own) (identity : List ℕ) (room : ℕ) (x : Context) (h : Happened) (s : List ℕ) → Honest x (stepOf own identity room x h s)
-step-honest own identity room x h s =
-    of-step own identity room x h s (Honest x) (refused-honest x _ (refused-most x (own .key) (length identity) h (length s) room) (refused-not-1 x (own .key) (length identity) h (length s) room))
-    (λ o. reacted-honest own identity s x (reactedTo identity x h s) (react-right identity x h s))
+  reacted-honest : (own : Own) (identity s : List ℕ) (x : Context) (t : Settled) → Right 63 x t → Honest x (reacted own identity s t)
+  reacted-honest own identity s x t r = record {
+    numbered = omega (arith, r .numbered);
+    kept = r .kept;
+    still = r .still;
+    silent = λ n m. unsent own identity s (t .context) (t .sends) (r .silent n m);
+    few = r .few;
+    told = r .told;
+    untold = r .untold;
+  }
 
--- A step from a fit context ends in a fit one.
-pub step-keeps-fit : (own : Own) (identity : List ℕ) (room : ℕ) (x : Context) (h : Happened) (s : List ℕ) → fitOf x ≡ true
-    → fitOf (stepOf own identity room x h s .context) ≡ true
-step-keeps-fit own identity room x h s fit =
-    of-step own identity room x h s (λ r. fitOf (r .context) ≡ true) fit (λ o. react-fit identity x h s (own .key) fit (o .range))
+  -- Every call is answered 0 to 7. Answers 1 and 3 to 7 change nothing lent, and 2 keeps the context.
+  pub step-honest : (own : Own) (identity : List ℕ) (room : ℕ) (x : Context) (h : Happened) (s : List ℕ) → Honest x (stepOf table own identity room x h s)
+  step-honest own identity room x h s =
+      of-step table own identity room x h s (Honest x) (refused-honest x _ (refused-most table x (own .key) (length identity) h (length s) room) (refused-not-1 table x (own .key) (length identity) h (length s) room))
+      (λ o. reacted-honest own identity s x (reactedTo table identity x h s) (react-right identity x h s))
 
--- Entering U0 clears: a context that is in U0 after a step is the cleared one.
-pub u0-cleared : (own : Own) (identity : List ℕ) (room : ℕ) (x : Context) (h : Happened) (s : List ℕ) → fitOf x ≡ true
-    → stepOf own identity room x h s .context .state ≡ U0 → stepOf own identity room x h s .context ≡ cleared
-u0-cleared own identity room x h s fit e = fit-u0 (stepOf own identity room x h s .context) (step-keeps-fit own identity room x h s fit) e
+  -- A step from a fit context ends in a fit one.
+  pub step-keeps-fit : (own : Own) (identity : List ℕ) (room : ℕ) (x : Context) (h : Happened) (s : List ℕ) → fitOf table x ≡ true
+      → fitOf table (stepOf table own identity room x h s .context) ≡ true
+  step-keeps-fit own identity room x h s fit =
+      of-step table own identity room x h s (λ r. fitOf table (r .context) ≡ true) fit (λ o. react-fit table identity x h s (own .key) fit (o .range))
 
--- A reply has at most 251 octets.
-abbrev Short : Reaction → Type 0
-Short r = length (r .reply) ≤ 251
+  -- Entering U0 clears: a context that is in U0 after a step is the cleared one.
+  pub u0-cleared : (own : Own) (identity : List ℕ) (room : ℕ) (x : Context) (h : Happened) (s : List ℕ) → fitOf table x ≡ true
+      → stepOf table own identity room x h s .context .state ≡ U0 → stepOf table own identity room x h s .context ≡ cleared
+  u0-cleared own identity room x h s fit e = fit-u0 table (stepOf table own identity room x h s .context) (step-keeps-fit own identity room x h s fit) e
 
-pub step-short : (own : Own) (identity : List ℕ) (room : ℕ) (x : Context) (h : Happened) (s : List ℕ) → Short (stepOf own identity room x h s)
-step-short own identity room x h s =
-    of-step own identity room x h s Short (omega arith)
-    (λ o.
-    let t : Settled = reactedTo identity x h s in
-    reply-short (t .context) (leb-true _ _ (fit-value (t .context) (react-fit identity x h s (own .key) (o .fit) (o .range)))) own identity s (t .sends) (o .known) (o .least) (o .most))
+  -- A reply has at most 251 octets.
+  abbrev Short : Reaction → Type 0
+  Short r = length (r .reply) ≤ 251
+
+  pub step-short : (own : Own) (identity : List ℕ) (room : ℕ) (x : Context) (h : Happened) (s : List ℕ) → Short (stepOf table own identity room x h s)
+  step-short own identity room x h s =
+      of-step table own identity room x h s Short (omega arith)
+      (λ o.
+      let t : Settled = reactedTo table identity x h s in
+      reply-short (t .context) (leb-true _ _ (fit-value table (t .context) (react-fit table identity x h s (own .key) (o .fit) (o .range)))) own identity s (t .sends) (o .known) (o .least) (o .most))

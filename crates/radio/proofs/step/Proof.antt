@@ -15,7 +15,7 @@ returns : tie.Need-returns
 returns c =
     let tested = c .before .before in
     let start = tested .before .before .before .before in
-    let p = is-refused (start .args .own) (start .args .identity .now) (start .args .reply .now) (start .args .context) (start .args .happened) (start .args .octets .now) _ (tested .refusal .ensures) (c .before .if1 .taken) in
+    let p = is-refused (start .args .table) (start .args .own) (start .args .identity .now) (start .args .reply .now) (start .args .context) (start .args .happened) (start .args .octets .now) _ (tested .refusal .ensures) (c .before .if1 .taken) in
     (c .refused .ensures ∙ p .0, p .1)
 
 take-requires : tie.Need-take-requires
@@ -30,7 +30,7 @@ returns-2 c =
     let passed = took .before .before in
     let tested = passed .before in
     let start = tested .before .before .before .before in
-    is-taken (start .args .own) (start .args .identity .now) (start .args .reply .now) (start .args .context) (start .args .happened) (start .args .octets .now) _ (tested .refusal .ensures) (passed .if1 .left) _ _ (took .take .ensures)
+    is-taken (start .args .table) (start .args .own) (start .args .identity .now) (start .args .reply .now) (start .args .context) (start .args .happened) (start .args .octets .now) _ (tested .refusal .ensures) (passed .if1 .left) _ _ (took .take .ensures)
 
 pub step-spec : {M : Type 1} → statement M
 step-spec = tie.close (tie.spec refusal-requires refused-requires returns take-requires same-length returns-2)
