@@ -3,6 +3,7 @@
 ghost use mathlib.Core.Path.{_≡_};
 ghost use lib.ListN.{length};
 ghost use lib.Seq.{sets};
+ghost use Rattle.version.specs.Version.{newest};
 ghost use Rattle.radio.specs.Step.{eventOf, dueTo, reactedTo, fitnessRefusal, refusalOf, shown, stepOf, takenOf};
 use call::Due;
 use call::Event;
@@ -171,8 +172,8 @@ pub fn take(
     }
 }
 
-// The step. The reply is written over the start of `reply`; of a message received `octets` are the octets.
-pub fn step(
+// The step by a table. The reply is written over the start of `reply`; of a message received `octets` are the octets.
+pub fn step_by(
     table: Table,
     context: Context,
     own: Own,
@@ -197,4 +198,27 @@ pub fn step(
         return refused(context, answer);
     }
     take(table, context, own, identity, happened, octets, reply)
+}
+
+// The step: by the newest table.
+pub fn step(
+    context: Context,
+    own: Own,
+    identity: &[u8],
+    happened: Happened,
+    octets: &[u8],
+    reply: &mut [u8],
+) -> Stepped
+    ensures { λ r. ⌜ (r ≡ shown (stepOf newest own (now (identity .entry)) (length (now (reply .entry))) context happened (now (octets .entry))))
+        × (now (reply .exit) ≡ sets (now (reply .entry)) 0 (stepOf newest own (now (identity .entry)) (length (now (reply .entry))) context happened (now (octets .entry)) .reply)) ⌝ }
+{
+    step_by(
+        version::NEWEST,
+        context,
+        own,
+        identity,
+        happened,
+        octets,
+        reply,
+    )
 }

@@ -1,9 +1,9 @@
--- `step` meets its contract: a refusal, or what the event comes to with its reply.
+-- `step_by` meets its contract: a refusal, or what the event comes to with its reply.
 use borrow.Author.Needs.{needs}
 use mathlib.Core.Path.{_∙_}
 use Rattle.radio.proofs.Reacting.{is-refused, is-taken}
-use Rattle.radio.proofs.step.Statement.{statement}
-use Rattle.radio.proofs.step.Tie as tie
+use Rattle.radio.proofs.step_by.Statement.{statement}
+use Rattle.radio.proofs.step_by.Tie as tie
 
 refusal-requires : tie.Need-refusal-requires
 refusal-requires c κs = search needs
@@ -32,5 +32,5 @@ returns-2 c =
     let start = tested .before .before .before .before in
     is-taken (start .args .table) (start .args .own) (start .args .identity .now) (start .args .reply .now) (start .args .context) (start .args .happened) (start .args .octets .now) _ (tested .refusal .ensures) (passed .if1 .left) _ _ (took .take .ensures)
 
-pub step-spec : {M : Type 1} → statement M
-step-spec = tie.close (tie.spec refusal-requires refused-requires returns take-requires same-length returns-2)
+pub step-by-spec : {M : Type 1} → statement M
+step-by-spec = tie.close (tie.spec refusal-requires refused-requires returns take-requires same-length returns-2)
