@@ -25,48 +25,48 @@ use Rattle.radio.proofs.Range.{refused-most, refused-not-1}
 use Rattle.radio.proofs.Reacting.{of-step, react-fit}
 
 
+-- What a reaction's answer says: it is a number of the table, 0 to 7; any but 0 keeps the context and has no actions; any but 0 and 2 writes nothing.
+-- Its actions are at most 63. Answer 1 has a reason of 1 to 6 beside it, and every other answer 0.
+pub record Honest (x : Context) (r : Reaction) : Type 0 where
+  pub numbered : r .answer ≤ 7
+  pub kept : (r .answer ≡ 0 → ⊥) → r .context ≡ x
+  pub still : (r .answer ≡ 0 → ⊥) → r .actions ≡ 0
+  pub silent : (r .answer ≡ 0 → ⊥) → (r .answer ≡ 2 → ⊥) → r .reply ≡ []
+  pub few : r .actions ≤ 63
+  pub told : r .answer ≡ 1 → (1 ≤ r .reason) × (r .reason ≤ 6)
+  pub untold : (r .answer ≡ 1 → ⊥) → r .reason ≡ 0
+
+refused-honest : (x : Context) (answer : ℕ) → answer ≤ 7 → (answer ≡ 1 → ⊥) → Honest x (refused answer x)
+refused-honest x answer most other = record {
+  numbered = most;
+  kept = λ n. refl;
+  still = λ n. refl;
+  silent = λ n m. refl;
+  few = omega arith;
+  told = λ e. absurd (other e);
+  untold = λ n. refl;
+}
+
+unsent : (own : Own) (identity s : List ℕ) (x : Context) (sends : Send) → sends ≡ Nothing → replyOf own identity s x sends ≡ []
+unfolding replyOf
+unsent own identity s x sends e = rw e
+
+reacted-honest : (own : Own) (identity s : List ℕ) (x : Context) (t : Settled) → Right 63 x t → Honest x (reacted own identity s t)
+reacted-honest own identity s x t r = record {
+  numbered = omega (arith, r .numbered);
+  kept = r .kept;
+  still = r .still;
+  silent = λ n m. unsent own identity s (t .context) (t .sends) (r .silent n m);
+  few = r .few;
+  told = r .told;
+  untold = r .untold;
+}
+
 module _ (table : Table) where
   -- Whatever is due keeps what the answers promise.
   pub react-right : (identity : List ℕ) (x : Context) (h : Happened) (s : List ℕ) → Right 63 x (reactedTo table identity x h s)
   unfolding reactedTo
   react-right identity x h s = settled-right table x (dueTo table identity x h s)
-
-  -- What a reaction's answer says: it is a number of the table, 0 to 7; any but 0 keeps the context and has no actions; any but 0 and 2 writes nothing.
-  -- Its actions are at most 63. Answer 1 has a reason of 1 to 6 beside it, and every other answer 0.
-  pub record Honest (x : Context) (r : Reaction) : Type 0 where
-    pub numbered : r .answer ≤ 7
-    pub kept : (r .answer ≡ 0 → ⊥) → r .context ≡ x
-    pub still : (r .answer ≡ 0 → ⊥) → r .actions ≡ 0
-    pub silent : (r .answer ≡ 0 → ⊥) → (r .answer ≡ 2 → ⊥) → r .reply ≡ []
-    pub few : r .actions ≤ 63
-    pub told : r .answer ≡ 1 → (1 ≤ r .reason) × (r .reason ≤ 6)
-    pub untold : (r .answer ≡ 1 → ⊥) → r .reason ≡ 0
-
-  refused-honest : (x : Context) (answer : ℕ) → answer ≤ 7 → (answer ≡ 1 → ⊥) → Honest x (refused answer x)
-  refused-honest x answer most other = record {
-    numbered = most;
-    kept = λ n. refl;
-    still = λ n. refl;
-    silent = λ n m. refl;
-    few = omega arith;
-    told = λ e. absurd (other e);
-    untold = λ n. refl;
-  }
-
-  unsent : (own : Own) (identity s : List ℕ) (x : Context) (sends : Send) → sends ≡ Nothing → replyOf own identity s x sends ≡ []
-  unfolding replyOf
-  unsent own identity s x sends e = rw e
-
-  reacted-honest : (own : Own) (identity s : List ℕ) (x : Context) (t : Settled) → Right 63 x t → Honest x (reacted own identity s t)
-  reacted-honest own identity s x t r = record {
-    numbered = omega (arith, r .numbered);
-    kept = r .kept;
-    still = r .still;
-    silent = λ n m. unsent own identity s (t .context) (t .sends) (r .silent n m);
-    few = r .few;
-    told = r .told;
-    untold = r .untold;
-  }
 
   -- Every call is answered 0 to 7. Answers 1 and 3 to 7 change nothing lent, and 2 keeps the context.
   pub step-honest : (own : Own) (identity : List ℕ) (room : ℕ) (x : Context) (h : Happened) (s : List ℕ) → Honest x (stepOf table own identity room x h s)
