@@ -41,7 +41,8 @@ fn tell_walked(own: Own, identity: &[u8], log: &[u8]) -> u8 {
 fn tell_counts(counts: &[usize; 7], entries: usize) {
     let ignored = std::num::wrapping_sub_usize(entries, counts[0]);
     if ignored == 0 {
-        tell(b"no message was ignored\n");
+        tell(b"no message was ignored in ");
+        tell_count(entries, b" entry\n", b" entries\n");
         return;
     }
     tell_count(ignored, b" message ignored in ", b" messages ignored in ");

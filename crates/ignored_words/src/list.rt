@@ -107,6 +107,7 @@ fn tell_passed(identity: &[u8], octets: &[u8], context: Context, passed: Passed)
 
 // The kind of a message, as far as its octets say: one of another protocol has none of ours.
 fn tell_kind(octets: &[u8]) {
+    let second = octet_at(octets, 1);
     match fault_of(octets) {
         1..=2 => {
             tell(b"message of ");
@@ -114,9 +115,13 @@ fn tell_kind(octets: &[u8]) {
         }
         3 => {
             tell(b"unknown type ");
-            tell_octet(octet_at(octets, 1));
+            tell_octet(second);
         }
-        _ => write_kind(STDOUT_FILENO, octet_at(octets, 1) % 64),
+        4 => {
+            tell(b"faulty ");
+            write_kind(STDOUT_FILENO, second % 64);
+        }
+        _ => write_kind(STDOUT_FILENO, second % 64),
     }
 }
 
