@@ -63,7 +63,7 @@ fn tell_ignored_help() {
           how many were ignored for each reason. The reasons, of which the first that applies is told:\n  \
           1 no call               2 too short         3 other protocol\n  \
           4 transaction mismatch  5 other identity    6 COMM false\n\
-          The log is judged as far as it is explained; where it is refused, the entry is told, and nothing is listed from there on.\n\
+          It lists up to where the judge explains the log; where the log is refused, the entry is told, and nothing behind it is listed.\n\
           A settings file that is refused stops it at its line.\n\
           Exit status: 0 the whole log is explained, 1 it is refused, 2 a file can't be opened.\n",
     );
