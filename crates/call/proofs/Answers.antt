@@ -1,5 +1,5 @@
 -- What an answer says, of a step by any sound rows: it is 0 to 3; any but 0 keeps the context and has no actions, and any but 0 and 2 sends nothing.
--- Actions are at most the rows' sum.
+-- Actions are at most the rows' sum. Answer 1 has a reason of 1 to 6 beside it, and every other answer 0.
 use Prim.Native.Nat.{ℕ, _≤_}
 use mathlib.Core.Path.{_≡_, refl}
 use mathlib.Core.List.{List}
@@ -28,6 +28,7 @@ use Rattle.call.specs.declared.Settled.{Settled}
 use Rattle.call.specs.Events.{seenOf}
 use Rattle.call.specs.Step.{took, ignored, noStep, reportedWith, statusTold, parametersSet, carriedOut, stepBy}
 use Rattle.call.specs.Due.{settledBy, settled}
+use Rattle.call.proofs.Reasons.{numbered}
 
 pub record Right (most : ℕ) (x : Context) (r : Settled) : Type 0 where
   pub numbered : r .answer ≤ 3
@@ -35,6 +36,8 @@ pub record Right (most : ℕ) (x : Context) (r : Settled) : Type 0 where
   pub still : (r .answer ≡ 0 → ⊥) → r .actions ≡ 0
   pub silent : (r .answer ≡ 0 → ⊥) → (r .answer ≡ 2 → ⊥) → r .sends ≡ Nothing
   pub few : r .actions ≤ most
+  pub told : r .answer ≡ 1 → (1 ≤ r .reason) × (r .reason ≤ 6)
+  pub untold : (r .answer ≡ 1 → ⊥) → r .reason ≡ 0
 
 module _ (fitness : Fitness) (most : ℕ) (x : Context) where
   taken-right : (y : Context) (actions : ℕ) (sends : Send) → actions ≤ most → Right most x (took y actions sends)
@@ -44,21 +47,48 @@ module _ (fitness : Fitness) (most : ℕ) (x : Context) where
     still = λ n. elim (n refl) [ ];
     silent = λ n m. elim (n refl) [ ];
     few = few;
+    told = λ e. let z : ⊥ = omega (arith, e) in absurd z;
+    untold = λ n. refl;
   }
 
   ignored-right : (reason : Reason) → Right most x (ignored reason x)
   unfolding ignored
-  ignored-right reason = record { numbered = omega arith; kept = λ n. refl; still = λ n. refl; silent = λ n m. refl; few = omega arith }
+  ignored-right reason = record {
+    numbered = omega arith;
+    kept = λ n. refl;
+    still = λ n. refl;
+    silent = λ n m. refl;
+    few = omega arith;
+    told = λ e. numbered reason;
+    untold = λ n. elim (n refl) [ ];
+  }
 
   no-step-right : Right most x (noStep x)
   unfolding noStep
-  no-step-right = record { numbered = omega arith; kept = λ n. refl; still = λ n. refl; silent = λ n m. refl; few = omega arith }
+  no-step-right = record {
+    numbered = omega arith;
+    kept = λ n. refl;
+    still = λ n. refl;
+    silent = λ n m. refl;
+    few = omega arith;
+    told = λ e. let z : ⊥ = omega (arith, e) in absurd z;
+    untold = λ n. refl;
+  }
 
   reported-right : (cause : ℕ) → Right most x (reportedWith cause x)
   unfolding reportedWith
   reported-right cause =
       at-cond (Right most x) (x .parameters .comm) _ _
-      (λ e. record { numbered = omega arith; kept = λ n. refl; still = λ n. refl; silent = λ n m. elim (m refl) [ ]; few = omega arith }) (λ e. ignored-right _)
+      (λ e. record {
+        numbered = omega arith;
+        kept = λ n. refl;
+        still = λ n. refl;
+        silent = λ n m. elim (m refl) [ ];
+        few = omega arith;
+        told = λ e. let z : ⊥ = omega (arith, e) in absurd z;
+        untold = λ n. refl;
+      })
+      (λ e. ignored-right _)
 
   carried-right : (d : Decision) (e : Seen) → OfTaken (λ d. leb (d .actions) most ≡ true) d → Right most x (carriedOut fitness x d e)
   unfolding carriedOut statusTold parametersSet
