@@ -1,10 +1,10 @@
 // The messages that a radio ignored, and why: a log is walked through as the judge does, and what the step says of each entry up to there is listed.
-mod list;
+mod listing;
 mod reason;
 
 use judge_walk::End;
 use judge_walk::walk;
-pub use list::list;
+pub use listing::list;
 use reason::tell_reason;
 use replay::own_of;
 use reply::Own;

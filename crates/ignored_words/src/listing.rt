@@ -75,11 +75,12 @@ fn pass_entry(table: Table, own: Own, identity: &[u8], log: &[u8], before: Passe
     let mut reply = [0u8; 255];
     let stepped = step_entry(own, identity, log, context, entry, &mut reply);
     let outcome = stepped.outcome;
+    let after = stepped.context;
     let passed = Passed {
         number: std::num::wrapping_add_usize(before.number, 1),
         time: std::num::wrapping_add_u64(before.time, entry.delta as u64),
         reason: outcome.reason,
-        context: stepped.context,
+        context: after,
         place,
     };
     tell_passed(identity, message_of(log, entry), context, passed);
