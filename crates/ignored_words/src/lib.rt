@@ -2,6 +2,7 @@
 mod listing;
 mod reason;
 
+ghost use Prim.Native.Nat.{_<_};
 use judge_walk::End;
 use judge_walk::walk;
 pub use listing::list;
@@ -47,18 +48,23 @@ fn tell_counts(counts: &[usize; 7], entries: usize) {
     }
     tell_count(ignored, b" message ignored in ", b" messages ignored in ");
     tell_count(entries, b" entry\n", b" entries\n");
-    tell_counted(1, counts[1]);
-    tell_counted(2, counts[2]);
-    tell_counted(3, counts[3]);
-    tell_counted(4, counts[4]);
-    tell_counted(5, counts[5]);
-    tell_counted(6, counts[6]);
+    tell_each(counts);
 }
 
-fn tell_counted(reason: u8, count: usize) {
+fn tell_each(counts: &[usize; 7]) {
+    let mut reason = 1;
+    while reason < 7 {
+        tell_counted(counts, reason);
+        reason += 1;
+    }
+}
+
+fn tell_counted(counts: &[usize; 7], reason: u8)
+    requires { ⌜ reason < 7 ⌝ }
+{
     tell_reason(reason);
     tell(b": ");
-    tell_place(count);
+    tell_place(counts[reason as usize]);
     tell(b"\n");
 }
 
