@@ -126,7 +126,7 @@ fn tell_kind(octets: &[u8]) {
     }
 }
 
-// The number of a message's fault, and 0 where it has none.
+// The number of a message's fault, and 0 where it has none. No log holds a message that is too long.
 fn fault_of(octets: &[u8]) -> u8 {
     match message::read(octets) {
         Reading::Is {
