@@ -1,5 +1,5 @@
-//! The second program: document 01 and the standard (GSM 04.69, 7.2.0) written
-//! down once more, so that another program can be compared with it command by
+//! The second program: document 01, what document 02 changes in it and the
+//! standard (GSM 04.69, 7.2.0) written down once more, so that another program can be compared with it command by
 //! command. This file has the subcommands alone.
 
 mod answer;
@@ -15,6 +15,7 @@ mod reason;
 mod settings;
 mod state;
 mod step;
+mod tables;
 mod timer;
 mod vectors;
 

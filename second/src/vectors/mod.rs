@@ -1,5 +1,6 @@
 //! The fixed sets of commands: both sides of every number in document 01, each
-//! row of its tables, each table of clause 8 of the standard, and its cases.
+//! row of its tables and of document 02's, each table of clause 8 of the
+//! standard, and its cases.
 
 pub mod judge;
 pub mod judge_limits;
