@@ -5,7 +5,7 @@ use crate::state::State;
 use crate::step::table::{Next, Trigger};
 use crate::tables::Table;
 use crate::vectors::lines;
-use std::collections::BTreeSet;
+use std::collections::{BTreeSet, HashMap};
 
 /// The answer numbers that a word's set comes to, in order.
 fn reached(word: &str) -> Vec<String> {
@@ -120,6 +120,25 @@ fn every_reason_is_there_where_it_can_be() {
     // Only an unacknowledged message can be for another.
     possible.extend((1..=7).map(|state| (state, 1, 5)));
     assert_eq!(ignored(), possible);
+}
+
+#[test]
+fn logs_under_both_numbers_are_there() {
+    let answers: HashMap<String, String> = lines("judge")
+        .into_iter()
+        .map(|line| (line.clone(), answer(line.as_bytes())))
+        .collect();
+    // The same entries behind 1 and behind 2: accepted by both, by one, by none.
+    let mut accepted = BTreeSet::new();
+    for (line, first) in &answers {
+        if let Some((head, entries)) = line.split_once(" 29f1 01") {
+            let other = format!("{head} 29f1 02{entries}");
+            if let Some(second) = answers.get(&other) {
+                accepted.insert((first.starts_with("0 "), second.starts_with("0 ")));
+            }
+        }
+    }
+    assert_eq!(accepted.len(), 4);
 }
 
 #[test]

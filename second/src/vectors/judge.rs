@@ -1,5 +1,6 @@
 //! The fixed set for `judge`: the cases of document 01, true runs through every
 //! row of its step table, and the same with each claim changed or the end cut.
+//! These are logs of version 1; `judge_versions` has those of version 2.
 
 use crate::commands::{judge, Identity};
 use crate::event::Event;
@@ -235,7 +236,7 @@ fn cases(lines: &mut Vec<String>) {
 }
 
 /// Each claim of each entry changed by itself, and the entry left out.
-fn claims(lines: &mut Vec<String>, table: Table, entries: &[Entry]) {
+pub fn claims(lines: &mut Vec<String>, table: Table, entries: &[Entry]) {
     for place in 0..entries.len() {
         for change in 0..8 {
             let mut changed = entries.to_vec();

@@ -15,7 +15,7 @@ pub fn all(lines: &mut Vec<String>) {
 }
 
 /// The timers that run in this state always, as a number.
-fn asked_timers(state: State) -> u8 {
+pub fn asked_timers(state: State) -> u8 {
     match state {
         State::U0p => 8,
         State::U4 => 2,
@@ -25,7 +25,7 @@ fn asked_timers(state: State) -> u8 {
 }
 
 /// A transaction value and a reference that are fit in this state.
-fn value_and_reference(state: State) -> (u8, &'static str) {
+pub fn value_and_reference(state: State) -> (u8, &'static str) {
     match state {
         State::U0 => (0, "00000000"),
         _ => (5, "0a0b0c0d"),
