@@ -30,6 +30,8 @@ usage: second probe
            answers the commands on standard input, a line each
        second generate SEED COUNT [WORD..]
            prints COUNT commands, the same ones for the same SEED; with words, only those
+       second versions SEED COUNT
+           prints judge commands: COUNT runs by each table, under the number of each version
        second vectors WORD
            prints the fixed set of commands for one word
        second --help
@@ -49,6 +51,10 @@ fn main() -> ExitCode {
             (Ok(seed), Ok(count)) if chosen.iter().all(|word| probe::WORDS.contains(word)) => {
                 generate::run(seed, count, chosen, &mut output)
             }
+            _ => return usage_error(),
+        },
+        ["versions", seed, count] => match (seed.parse(), count.parse()) {
+            (Ok(seed), Ok(count)) => generate::versions::run(seed, count, &mut output),
             _ => return usage_error(),
         },
         ["vectors", word] if probe::WORDS.contains(word) => vectors::run(word, &mut output),

@@ -74,7 +74,8 @@ pub fn damaged(random: &mut Random, mut walk: Walk) -> (Walk, Vec<u8>) {
     (walk, log)
 }
 
-fn claim(random: &mut Random, entries: &mut [Entry]) {
+/// One field of one entry, mostly in its range.
+pub fn claim(random: &mut Random, entries: &mut [Entry]) {
     if entries.is_empty() {
         return;
     }
@@ -94,7 +95,7 @@ fn claim(random: &mut Random, entries: &mut [Entry]) {
 }
 
 /// One millisecond more or less, mostly at an expiry.
-fn time(random: &mut Random, entries: &mut [Entry]) {
+pub fn time(random: &mut Random, entries: &mut [Entry]) {
     if entries.is_empty() {
         return;
     }

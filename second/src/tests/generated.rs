@@ -4,13 +4,13 @@
 
 use crate::generate::log::true_run;
 use crate::generate::random::Random;
-use crate::generate::{self, walk::Walk};
+use crate::generate::{self, versions, walk::Walk};
 use crate::log::judge::{judge, Judgement};
 use crate::log::record::record;
 use crate::own::Own;
 use crate::probe::answer;
 use crate::step::table::Row;
-use crate::tables::TABLES;
+use crate::tables::{Table, TABLES};
 
 fn commands(seed: u64, count: u64, word: &str) -> Vec<String> {
     let mut lines = Vec::new();
@@ -174,4 +174,19 @@ fn every_answer_number_is_reached() {
     assert_eq!(reached("settings"), "0 12 ?");
     assert_eq!(reached("judge"), "0 10 4 8 9 ?");
     assert_eq!(reached("record"), "0 10 11 4 ?");
+}
+
+#[test]
+fn runs_by_each_table_are_judged_under_each_version() {
+    let mut random = Random::from_seed(9);
+    for table in TABLES.into_iter().cycle().take(400) {
+        let lines = versions::round(&mut random, table);
+        // True and changed, each under 1 and under 2.
+        assert_eq!(lines.len(), 4);
+        let own = usize::from(table == Table::Second);
+        assert!(answer(lines[own].as_bytes()).starts_with("0 "));
+        let entries = |line: &str| line.rsplit_once(' ').expect("a log").1[2..].to_string();
+        assert_eq!(entries(&lines[0]), entries(&lines[1]));
+        assert_eq!(entries(&lines[2]), entries(&lines[3]));
+    }
 }
