@@ -135,7 +135,12 @@ pub fn is_fit(table: Table, context: Context) -> bool
     ensures { λ r. ⌜ r ≡ fitBy (fitnessOf table) context ⌝ }
 {
     let state = context.state;
-    if !fits_state(table, state, context.parameters.orig, context.parameters.comm) {
+    if !fits_state(
+        table,
+        state,
+        context.parameters.orig,
+        context.parameters.comm,
+    ) {
         return false;
     }
     if 6 < context.value {

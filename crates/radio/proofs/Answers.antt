@@ -24,7 +24,6 @@ use Rattle.radio.specs.Step.{dueTo, reactedTo, Reaction, refused, reacte
 use Rattle.radio.proofs.Range.{refused-most, refused-not-1}
 use Rattle.radio.proofs.Reacting.{of-step, react-fit}
 
-
 -- What a reaction's answer says: it is a number of the table, 0 to 7; any but 0 keeps the context and has no actions; any but 0 and 2 writes nothing.
 -- Its actions are at most 63. Answer 1 has a reason of 1 to 6 beside it, and every other answer 0.
 pub record Honest (x : Context) (r : Reaction) : Type 0 where

@@ -37,7 +37,6 @@ chosen false false false false e = (refl, (refl, (refl, refl)))
 positive : (n : ℕ) → (n ≡ 0 → ⊥) → 1 ≤ n
 positive n h = omega arith
 
-
 module _ (table : Table) where
   -- What holds of a step that is not refused.
   pub record InRange (x : Context) (key identity : ℕ) (h : Happened) (octets room : ℕ) : Type 0 where

@@ -82,7 +82,13 @@ fn due_to(table: Table, context: Context, identity: &[u8], happened: Happened, o
 }
 
 // The step of an event that is in range.
-fn react(table: Table, context: Context, identity: &[u8], happened: Happened, octets: &[u8]) -> call::Settled
+fn react(
+    table: Table,
+    context: Context,
+    identity: &[u8],
+    happened: Happened,
+    octets: &[u8],
+) -> call::Settled
     ensures { λ r. ⌜ r ≡ reactedTo table (now (identity .entry)) context happened (now (octets .entry)) ⌝ }
 {
     let due = due_to(table, context, identity, happened, octets);
