@@ -128,19 +128,46 @@ static void same_when_changed(void)
     }
 }
 
+/* How many steps were compared with each reason, 0 to 6. */
+static size_t reasons[7];
+
+static void same_step(const char *what, size_t place, const struct step_case *at)
+{
+    uint8_t ours_context[16], twin_context[16], ours_reply[255] = {0}, twin_reply[255] = {0};
+    memcpy(ours_context, at->context, 16);
+    memcpy(twin_context, at->context, 16);
+    struct heidezirkel_step ours = heidezirkel_step(ours_context, bench_settings, at->event, at->message, at->length, ours_reply, 255);
+    struct heidezirkel_step twin = twin_step(twin_context, bench_settings, at->event, at->message, at->length, twin_reply, 255);
+    if (ours.answer != twin.answer || ours.reason != twin.reason || ours.actions != twin.actions || ours.reply_length != twin.reply_length
+        || memcmp(ours_context, twin_context, 16) != 0 || memcmp(ours_reply, twin_reply, 255) != 0)
+        differ(what, place);
+    reasons[twin.reason]++;
+}
+
+/* A message of another protocol or another call: each bit of its first octet changed in turn. Then with no octet and with one. */
+static void same_when_misheard(size_t place, struct step_case heard)
+{
+    for (int bit = 0; bit < 8; bit++) {
+        heard.message[0] ^= 1 << bit;
+        same_step("a step whose message has one bit changed", place, &heard);
+        heard.message[0] ^= 1 << bit;
+    }
+    for (heard.length = 0; heard.length < 2; heard.length++)
+        same_step("a step whose message is cut short", place, &heard);
+}
+
 static void same_steps(void)
 {
     for (size_t i = 0; i < logs.step_count; i++) {
-        const struct step_case *at = &logs.steps[i];
-        uint8_t ours_context[16], twin_context[16], ours_reply[255] = {0}, twin_reply[255] = {0};
-        memcpy(ours_context, at->context, 16);
-        memcpy(twin_context, at->context, 16);
-        struct heidezirkel_step ours = heidezirkel_step(ours_context, bench_settings, at->event, at->message, at->length, ours_reply, 255);
-        struct heidezirkel_step twin = twin_step(twin_context, bench_settings, at->event, at->message, at->length, twin_reply, 255);
-        if (ours.answer != twin.answer || ours.actions != twin.actions || ours.reply_length != twin.reply_length
-            || memcmp(ours_context, twin_context, 16) != 0 || memcmp(ours_reply, twin_reply, 255) != 0)
-            differ("a step", i);
+        same_step("a step", i, &logs.steps[i]);
+        if (logs.steps[i].event.number == 18)
+            same_when_misheard(i, logs.steps[i]);
     }
+    for (int reason = 1; reason <= 6; reason++)
+        if (reasons[reason] == 0) {
+            printf("no step ignores a message for reason %d\n", reason);
+            differences++;
+        }
 }
 
 static void same_numbers(void)

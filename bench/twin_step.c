@@ -23,6 +23,9 @@ enum {
     SET_PARAMETER = 0x3a,
 };
 
+/* Why a message is ignored: document 02, A1. */
+enum reason { NO_CALL = 1, TOO_SHORT, OTHER_PROTOCOL, TRANSACTION_MISMATCH, OTHER_IDENTITY, COMM_FALSE };
+
 /* ORIG, COMM, D-ATT, U-ATT of each state: 6.1.2.1.2 to 6.1.2.1.9. */
 static const bool start_rows[8][4] = {
     {false, false, false, false},
@@ -120,12 +123,17 @@ static void enter(struct twin_context *context, enum twin_state state)
 
 static struct heidezirkel_step answer(uint32_t number)
 {
-    return (struct heidezirkel_step){number, 0, 0};
+    return (struct heidezirkel_step){.answer = number};
+}
+
+static struct heidezirkel_step ignored(enum reason reason)
+{
+    return (struct heidezirkel_step){.answer = HEIDEZIRKEL_IGNORED, .reason = reason};
 }
 
 static struct heidezirkel_step taken(uint32_t actions, size_t reply_length)
 {
-    return (struct heidezirkel_step){HEIDEZIRKEL_TAKEN, actions, reply_length};
+    return (struct heidezirkel_step){.answer = HEIDEZIRKEL_TAKEN, .actions = actions, .reply_length = reply_length};
 }
 
 static struct heidezirkel_step end_call(struct twin_context *context, uint32_t actions)
@@ -215,10 +223,10 @@ static size_t put_status(const struct twin_context *context, uint8_t cause, cons
 static struct heidezirkel_step report(const struct twin_context *context, uint8_t cause, const uint8_t *message, size_t length, uint8_t *reply)
 {
     if (!context->comm)
-        return answer(HEIDEZIRKEL_IGNORED);
+        return ignored(COMM_FALSE);
     size_t count = length <= 245 ? length : 0;
-    struct heidezirkel_step step = {HEIDEZIRKEL_REPORTED, 0, put_status(context, cause, message, count, reply)};
-    return step;
+    size_t reply_length = put_status(context, cause, message, count, reply);
+    return (struct heidezirkel_step){.answer = HEIDEZIRKEL_REPORTED, .reply_length = reply_length};
 }
 
 /* A message: the identity and its length, 0 where it has none. */
@@ -317,14 +325,30 @@ static struct heidezirkel_step connect(struct twin_context *context, const uint8
     return taken(actions, 0);
 }
 
+/* Rule 4, then the sentence on GET STATUS. */
+static struct heidezirkel_step get_status(const struct twin_context *context, const struct twin_own *own, uint8_t mode, const uint8_t *message,
+    struct identity identity, uint8_t *reply)
+{
+    if (mode == 1 && identity.length > 0
+        && (identity.length != own->identity_length || memcmp(identity.octets, own->identity, identity.length) != 0))
+        return ignored(OTHER_IDENTITY);
+    if (!context->comm)
+        return ignored(COMM_FALSE);
+    return taken(0, put_status(context, 30, message, 0, reply));
+}
+
 /* The six rules of received messages, in their order. */
 static struct heidezirkel_step hear(struct twin_context *context, const struct twin_own *own, uint8_t mode, const uint8_t *message, size_t length,
     uint8_t *reply)
 {
-    if (context->state == U0 || length < 2 || (message[0] & 15) != 1)
-        return answer(HEIDEZIRKEL_IGNORED);
+    if (context->state == U0)
+        return ignored(NO_CALL);
+    if (length < 2)
+        return ignored(TOO_SHORT);
+    if ((message[0] & 15) != 1)
+        return ignored(OTHER_PROTOCOL);
     if (message[0] >> 4 != 8 * expected_flag(context->state) + context->value)
-        return answer(HEIDEZIRKEL_IGNORED);
+        return ignored(TRANSACTION_MISMATCH);
 
     uint8_t cause = type_cause(context->state, message[1]);
     if (cause != 0)
@@ -338,12 +362,7 @@ static struct heidezirkel_step hear(struct twin_context *context, const struct t
 
     switch (type) {
     case GET_STATUS:
-        if (mode == 1 && identity.length > 0
-            && (identity.length != own->identity_length || memcmp(identity.octets, own->identity, identity.length) != 0))
-            return answer(HEIDEZIRKEL_IGNORED);
-        if (!context->comm)
-            return answer(HEIDEZIRKEL_IGNORED);
-        return taken(0, put_status(context, 30, message, 0, reply));
+        return get_status(context, own, mode, message, identity, reply);
     case CONNECT:
         if ((message[6] & 1) == 0)
             return report(context, 95, message, length, reply);

@@ -36,6 +36,9 @@ struct host {
 
 static const char *const state_words[] = {"U0", "U0.p", "U1", "U2", "U3", "U4", "U5", "U6"};
 static const char *const answer_words[] = {"taken", "ignored", "reported", "no step here"};
+static const char *const reason_words[] = {
+    "", " (no call)", " (too short)", " (other protocol)", " (other transaction)", " (other identity)", " (COMM is false)",
+};
 static const char *const event_words[] = {
     "", "set-up request", "immediate set-up request", "join", "terminate", "release", "MM connection established", "MM establishment failed",
     "radio link failure", "abort or release detected", "broadcast notified", "group receive mode entered", "no channel", "channel available",
@@ -53,8 +56,8 @@ static void fail(const char *what) {
 static void say_step(const struct host *host, uint32_t event, uint8_t state_before, struct heidezirkel_step step) {
     if (step.answer > HEIDEZIRKEL_NO_STEP)
         fail("a step was refused: settings, context or event are not what they must be");
-    printf("%4u.%03u s  %s: %s, %s -> %s", (unsigned)(host->now_ms / 1000), (unsigned)(host->now_ms % 1000), event_words[event],
-        answer_words[step.answer], state_words[state_before], state_words[host->context[0]]);
+    printf("%4u.%03u s  %s: %s%s, %s -> %s", (unsigned)(host->now_ms / 1000), (unsigned)(host->now_ms % 1000), event_words[event],
+        answer_words[step.answer], reason_words[step.reason], state_words[state_before], state_words[host->context[0]]);
 }
 
 /* ---- What a step asks for ---- */

@@ -47,7 +47,7 @@ extern "C" {
 
 enum {
     HEIDEZIRKEL_TAKEN = 0,             /* taken, as the step table says */
-    HEIDEZIRKEL_IGNORED = 1,           /* message ignored: it was not for this call, or nothing may be sent about it */
+    HEIDEZIRKEL_IGNORED = 1,           /* message ignored: it was not for this call, or nothing may be sent about it; with the reason's number */
     HEIDEZIRKEL_REPORTED = 2,          /* message reported: the reply is a STATUS that says why; the context is unchanged */
     HEIDEZIRKEL_NO_STEP = 3,           /* the event has no step in this state */
     HEIDEZIRKEL_OUT_OF_RANGE = 4,      /* an argument is outside its range */
@@ -179,6 +179,15 @@ enum { /* what the host is to do: the actions, added up */
     HEIDEZIRKEL_DO_TELL_MM_EXISTS = 32        /* tell lower layers that the MM connection exists implicitly */
 };
 
+enum { /* why a message was ignored: the reason beside answer 1. Where several apply, the first of them */
+    HEIDEZIRKEL_IGNORED_NO_CALL = 1,        /* the radio is in U0 */
+    HEIDEZIRKEL_IGNORED_TOO_SHORT = 2,      /* under 2 octets */
+    HEIDEZIRKEL_IGNORED_OTHER_PROTOCOL = 3, /* its protocol discriminator is not 1, that of broadcast call control */
+    HEIDEZIRKEL_IGNORED_TRANSACTION = 4,    /* its transaction value or flag is not that of this call */
+    HEIDEZIRKEL_IGNORED_IDENTITY = 5,       /* received in unacknowledged mode, and it names another radio's identity */
+    HEIDEZIRKEL_IGNORED_COMM_FALSE = 6      /* it asks for a STATUS, or would be reported with one, and the parameter COMM is false */
+};
+
 /* An event and its data. What an event does not carry has no effect and may be anything; zero is a good habit. */
 struct heidezirkel_event {
     uint32_t number;      /* 1 to 18 */
@@ -188,6 +197,7 @@ struct heidezirkel_event {
 };
 struct heidezirkel_step {
     uint32_t answer;     /* 0 to 7 */
+    uint32_t reason;     /* of 1: why the message was ignored, 1 to 6; else 0 */
     uint32_t actions;    /* of 0: the actions, added up; else 0 */
     size_t reply_length; /* of 0 and 2: how many octets at the start of the reply buffer are to be sent; else, and where nothing is to be sent, 0 */
 };

@@ -11,6 +11,7 @@ mod log;
 mod message;
 mod own;
 mod probe;
+mod reason;
 mod settings;
 mod state;
 mod step;

@@ -54,6 +54,7 @@ static struct entry entry_words(struct line *line) {
     entry.event = event_words(line, UINT32_MAX);
     entry.message = octets_word(line);
     entry.step.answer = number_word(line, UINT32_MAX);
+    entry.step.reason = UINT32_MAX; /* a log holds no reason */
     entry.context[0] = clipped(number_word(line, UINT32_MAX));
     entry.context[1] = clipped(number_word(line, UINT32_MAX));
     entry.step.actions = number_word(line, UINT32_MAX);

@@ -33,6 +33,7 @@ static uint32_t answer_to(const uint8_t octets[16], size_t room) {
     struct heidezirkel_step step = heidezirkel_step(context.octets, settings, event, nothing, 0, reply.octets, room);
     bool refused = step.answer != HEIDEZIRKEL_TAKEN;
     EXPECT(!refused || (kept(&context, 0) && step.actions == 0 && step.reply_length == 0));
+    EXPECT(step.reason == 0);
     EXPECT(kept(&reply, 0));
     refusals_seen += refused;
     give_back(&context);
@@ -155,7 +156,7 @@ static void check_looked_at(void) {
     static const uint8_t expected[] = {0x01, 0x00, 0x03, 0x03, 0x00, 0x00, 0x00, 0x00};
     static const uint8_t context[16] = {0, 0, 255, 255, 1, 2, 3, 4, 5, 6, 7, 8, 9, 10, 11, 12};
     struct heidezirkel_event join = {.number = HEIDEZIRKEL_EVENT_JOIN, .value = 255, .mode = 255, .reference = {1, 2, 3, 4}};
-    struct heidezirkel_step step = {.answer = HEIDEZIRKEL_NO_STEP, .reply_length = 7};
+    struct heidezirkel_step step = {.answer = HEIDEZIRKEL_NO_STEP, .reason = 6, .reply_length = 7};
     struct lent log = lend(sizeof expected);
     struct heidezirkel_used recorded = heidezirkel_record(log.octets, log.length, 0, 0, join, settings, 13, step, context, nothing, 0);
     EXPECT(recorded.answer == HEIDEZIRKEL_TAKEN && recorded.used == sizeof expected);

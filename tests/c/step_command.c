@@ -40,12 +40,14 @@ static void context_words(struct line *line, uint8_t context[16]) {
 static void look_at_step(struct heidezirkel_step step, const struct lent *context, const struct lent *reply) {
     bool takes = step.answer == HEIDEZIRKEL_TAKEN;
     bool sends = takes || step.answer == HEIDEZIRKEL_REPORTED;
+    bool ignores = step.answer == HEIDEZIRKEL_IGNORED;
     promise(kept(context, takes ? 16 : 0), "step: a context that is not to change changed");
     promise(step.reply_length <= reply->length, "step: the reply is longer than its buffer");
     promise(kept(reply, step.reply_length), "step: an octet outside the reply changed");
     promise(takes || step.actions == 0, "step: actions without answer 0");
     promise(sends || step.reply_length == 0, "step: a reply without answer 0 or 2");
     promise(step.answer <= HEIDEZIRKEL_NO_CONTEXT, "step: an answer over 7");
+    promise(ignores ? step.reason >= 1 && step.reason <= 6 : step.reason == 0, "step: a reason that does not go with the answer");
     for (size_t i = 8; i < 16; i++)
         promise(context->octets[i] == 0, "step: a kept octet of the context is not zero");
     refusals_seen += !sends;
@@ -56,6 +58,7 @@ static void print_step(struct heidezirkel_step step, const uint8_t *context, con
     print_octets(context + 4, 4);
     printf(" %u ", step.actions);
     print_octets(reply, step.reply_length);
+    printf(" %u", step.reason);
 }
 
 bool step_command(struct line *line) {

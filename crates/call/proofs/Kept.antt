@@ -43,6 +43,7 @@ use Rattle.call.specs.declared.Due.{Due}
 use Rattle.call.specs.declared.Due.the-variants.{Steps, Ignored, Reported, Refused}
 use Rattle.call.specs.declared.Event.{Event}
 use Rattle.call.specs.declared.Event.the-variants.{Received}
+use Rattle.call.specs.declared.Reason.the-variants.{CommFalse}
 use Rattle.call.specs.declared.Seen.{Seen}
 use Rattle.call.specs.declared.Settled.{Settled}
 use Rattle.call.specs.Events.{seenMessage, seenOf}
@@ -79,7 +80,7 @@ enters-cleared x d e u = rw u
 -- The value that what is due carries is at most 6.
 abbrev pub DueFit : Due → Type 0
 DueFit (Steps event) = leb (seenOf event .value) 6 ≡ true
-DueFit Ignored = Unit {0}
+DueFit (Ignored reason) = Unit {0}
 DueFit (Reported cause) = Unit {0}
 DueFit Refused = Unit {0}
 
@@ -135,7 +136,7 @@ module _ (fitness : Fitness) (most : ℕ) (table : List Row) (sound : Sound fitn
   pub fit-by : (due : Due) → DueFit due → StepFits (settledBy fitness table x due)
   unfolding settledBy ignored noStep
   fit-by (Steps event) fits = step-by event fits
-  fit-by Ignored fits = fit
+  fit-by (Ignored reason) fits = fit
   fit-by (Reported cause) fits = reported-fit cause
   fit-by Refused fits = fit
 
@@ -172,8 +173,8 @@ silent U4 p q e f = not-true _ (and-right (not (q .orig)) _ f)
 silent U5 p q e f = never (sym e)
 silent U6 p q e f = not-true _ (and-right (not (q .orig)) _ f)
 
--- An inconsistent SET PARAMETER is always ignored in a fit context: answer 1.
-pub inconsistent-ignored : (x : Context) (attributes : ℕ) → fitOf x ≡ true → consistent (x .state) (parametersOf attributes) ≡ false → parametersSet firstFitness attributes x ≡ ignored x
+-- An inconsistent SET PARAMETER is always ignored in a fit context: answer 1, COMM false.
+pub inconsistent-ignored : (x : Context) (attributes : ℕ) → fitOf x ≡ true → consistent (x .state) (parametersOf attributes) ≡ false → parametersSet firstFitness attributes x ≡ ignored CommFalse x
 unfolding parametersSet reportedWith
 inconsistent-ignored x attributes fit e =
     let c : x .parameters .comm ≡ false = silent (x .state) (parametersOf attributes) (x .parameters) e (fit-consistent firstFitness x fit) in

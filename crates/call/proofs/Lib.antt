@@ -1,3 +1,4 @@
+pub mod Reasons
 pub mod Kept
 pub mod Answers
 pub mod Timed

@@ -22,6 +22,7 @@ use Rattle.transitions.proofs.Sound.{rightly, Sound}
 use Rattle.transitions.proofs.Decided.{OfTaken, SetRightly, sets-rightly}
 use Rattle.call.specs.declared.Due.{Due}
 use Rattle.call.specs.declared.Due.the-variants.{Steps, Ignored, Reported, Refused}
+use Rattle.call.specs.declared.Reason.{Reason}
 use Rattle.call.specs.declared.Seen.{Seen}
 use Rattle.call.specs.declared.Settled.{Settled}
 use Rattle.call.specs.Events.{seenOf}
@@ -48,9 +49,9 @@ module _ (fitness : Fitness) (x : Context) where
   abbrev pub Timed : ℕ → Settled → Type 0
   Timed set r = rightly set (runs x) (runs (r .context)) ≡ true
 
-  ignored-timed : Timed 0 (ignored x)
+  ignored-timed : (reason : Reason) → Timed 0 (ignored reason x)
   unfolding ignored
-  ignored-timed = stays (runs x)
+  ignored-timed reason = stays (runs x)
 
   none-timed : Timed 0 (noStep x)
   unfolding noStep
@@ -58,15 +59,15 @@ module _ (fitness : Fitness) (x : Context) where
 
   reported-timed : (cause : ℕ) → Timed 0 (reportedWith cause x)
   unfolding reportedWith
-  reported-timed cause = at-cond (Timed 0) (x .parameters .comm) _ _ (λ e. stays (runs x)) (λ e. ignored-timed)
+  reported-timed cause = at-cond (Timed 0) (x .parameters .comm) _ _ (λ e. stays (runs x)) (λ e. ignored-timed _)
 
   carried-timed : (d : Decision) (e : Seen) → OfTaken (SetRightly x) d → Timed (setBy d) (carriedOut fitness x d e)
   unfolding carriedOut statusTold parametersSet
   carried-timed (Take d) e q = rw (runs-after x d e) q
   carried-timed NoStep e q = none-timed
-  carried-timed Ignore e q = ignored-timed
+  carried-timed Ignore e q = ignored-timed _
   carried-timed (Report cause) e q = reported-timed cause
-  carried-timed TellStatus e q = at-cond (Timed 0) (x .parameters .comm) _ _ (λ u. stays (runs x)) (λ u. ignored-timed)
+  carried-timed TellStatus e q = at-cond (Timed 0) (x .parameters .comm) _ _ (λ u. stays (runs x)) (λ u. ignored-timed _)
   carried-timed SetParameters e q =
       at-cond (Timed 0) (consistentBy fitness (x .state) (parametersOf (e .attributes))) _ _ (λ u. stays (runs x)) (λ u. reported-timed 98)
 
@@ -74,6 +75,6 @@ module _ (fitness : Fitness) (x : Context) where
   unfolding settledBy stepBy setByDueIn
   timed-by most table sound fit (Steps event) =
       carried-timed (decidedBy table x (seenOf event .number) (seenOf event .code)) (seenOf event) (sets-rightly fitness most table sound x fit (seenOf event .number) (seenOf event .code))
-  timed-by most table sound fit Ignored = ignored-timed
+  timed-by most table sound fit (Ignored reason) = ignored-timed reason
   timed-by most table sound fit (Reported cause) = reported-timed cause
   timed-by most table sound fit Refused = none-timed

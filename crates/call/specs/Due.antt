@@ -12,7 +12,7 @@ use Rattle.call.specs.Step.{ignored, noStep, reportedWith, stepBy}
 
 unfoldable pub settledBy : Fitness → List Row → Context → Due → Settled
 settledBy fitness table x (Steps event) = stepBy fitness table x event
-settledBy fitness table x Ignored = ignored x
+settledBy fitness table x (Ignored reason) = ignored reason x
 settledBy fitness table x (Reported cause) = reportedWith cause x
 settledBy fitness table x Refused = noStep x
 

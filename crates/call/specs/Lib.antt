@@ -1,4 +1,5 @@
 pub mod Events
+pub mod Reasons
 pub mod Step
 pub mod Due
 pub mod Sets

@@ -11,7 +11,7 @@ use Rattle.call.specs.Events.{seenOf}
 -- Its number, 0 where none is set.
 unfoldable pub setByDueIn : List Row → Context → Due → ℕ
 setByDueIn table x (Steps event) = let e : Seen = seenOf event in setBy (decidedBy table x (e .number) (e .code))
-setByDueIn table x Ignored = 0
+setByDueIn table x (Ignored reason) = 0
 setByDueIn table x (Reported cause) = 0
 setByDueIn table x Refused = 0
 

@@ -21,9 +21,12 @@ use Rattle.transitions.specs.declared.Decision.{Decision}
 use Rattle.transitions.specs.declared.Decision.the-variants.{Take, NoStep, Ignore, Report, TellStatus, SetParameters}
 use Rattle.transitions.specs.Table.{Row, stepTable, timersAfter, decidedBy}
 use Rattle.call.specs.declared.Event.{Event}
+use Rattle.call.specs.declared.Reason.{Reason}
+use Rattle.call.specs.declared.Reason.the-variants.{NoCall, CommFalse}
 use Rattle.call.specs.declared.Seen.{Seen}
 use Rattle.call.specs.declared.Settled.{Settled}
 use Rattle.call.specs.Events.{seenOf}
+use Rattle.call.specs.Reasons.{reasonNumber}
 
 -- A step that stays in its state keeps the parameters; another enters its next state.
 unfoldable pub parametersAfter : Context → State → Parameters
@@ -54,23 +57,23 @@ afterwards x d e =
 
 -- Answer 0: taken.
 abbrev pub took : Context → ℕ → Send → Settled
-took x actions sends = record { answer = 0; context = x; actions = actions; sends = sends }
+took x actions sends = record { answer = 0; reason = 0; context = x; actions = actions; sends = sends }
 
--- Answer 1: message ignored.
-unfoldable pub ignored : Context → Settled
-ignored x = record { answer = 1; context = x; actions = 0; sends = Send.Nothing }
+-- Answer 1: message ignored, for this reason.
+unfoldable pub ignored : Reason → Context → Settled
+ignored reason x = record { answer = 1; reason = reasonNumber reason; context = x; actions = 0; sends = Send.Nothing }
 
 -- Answer 3: event has no step here.
 unfoldable pub noStep : Context → Settled
-noStep x = record { answer = 3; context = x; actions = 0; sends = Send.Nothing }
+noStep x = record { answer = 3; reason = 0; context = x; actions = 0; sends = Send.Nothing }
 
--- "Reported" means answer 2 and a STATUS if COMM was true, else answer 1.
+-- "Reported" means answer 2 and a STATUS if COMM was true, else answer 1: COMM false.
 unfoldable pub reportedWith : ℕ → Context → Settled
-reportedWith cause x = cond (x .parameters .comm) (record { answer = 2; context = x; actions = 0; sends = Send.ErrorStatus cause }) (ignored x)
+reportedWith cause x = cond (x .parameters .comm) (record { answer = 2; reason = 0; context = x; actions = 0; sends = Send.ErrorStatus cause }) (ignored CommFalse x)
 
--- GET STATUS: with COMM true answer 0 and a STATUS with cause 30, else ignored.
+-- GET STATUS: with COMM true answer 0 and a STATUS with cause 30, else ignored: COMM false.
 unfoldable pub statusTold : Context → Settled
-statusTold x = cond (x .parameters .comm) (took x 0 (Send.Status 30)) (ignored x)
+statusTold x = cond (x .parameters .comm) (took x 0 (Send.Status 30)) (ignored CommFalse x)
 
 -- The context with other parameters.
 abbrev pub withParameters : Parameters → Context → Context
@@ -83,11 +86,11 @@ parametersSet fitness attributes x =
     let p : Parameters = parametersOf attributes in
     cond (consistentBy fitness (x .state) p) (took (withParameters p x) 0 Send.Nothing) (reportedWith 98 x)
 
--- What the table's decision brings about.
+-- What the table's decision brings about. In U0 it ignores a message: no call.
 unfoldable pub carriedOut : Fitness → Context → Decision → Seen → Settled
 carriedOut fitness x (Take d) e = took (afterwards x d e) (d .actions) (d .sends)
 carriedOut fitness x NoStep e = noStep x
-carriedOut fitness x Ignore e = ignored x
+carriedOut fitness x Ignore e = ignored NoCall x
 carriedOut fitness x (Report cause) e = reportedWith cause x
 carriedOut fitness x TellStatus e = statusTold x
 carriedOut fitness x SetParameters e = parametersSet fitness (e .attributes) x

@@ -1,6 +1,8 @@
-// What happens in a call, and what a step of it comes to: events, what is due, and an event taken apart. The step itself is in call_step.
+// What happens in a call, and what a step of it comes to: events, what is due, why a message is ignored, and an event taken apart. The step itself is in
+// call_step.
 ghost use mathlib.Core.Path.{_≡_};
 ghost use Rattle.call.specs.Events.{bare, carrying, heard, seenMessage, seenOf};
+ghost use Rattle.call.specs.Reasons.{reasonNumber};
 use codes::message_type;
 use context::Context;
 use message::Message;
@@ -39,9 +41,21 @@ pub struct Seen {
     pub attributes: u8,
 }
 
-// What is due, settled: what a step comes to before its reply is octets. The answer is document 01's number.
+// Why a message is ignored, in the order of the numbers 1 to 6.
+pub enum Reason {
+    NoCall,
+    TooShort,
+    OtherProtocol,
+    TransactionMismatch,
+    OtherIdentity,
+    CommFalse,
+}
+
+// What is due, settled: what a step comes to before its reply is octets. The answer is document 01's number; the reason is the number of why a message is
+// ignored, and 0 with every other answer.
 pub struct Settled {
     pub answer: u8,
+    pub reason: u8,
     pub context: Context,
     pub actions: u8,
     pub sends: Send,
@@ -50,9 +64,23 @@ pub struct Settled {
 // What is due where something happens: the step of an event, or what befalls a message or a number that comes to no step.
 pub enum Due {
     Steps(Event),
-    Ignored,
+    Ignored(Reason),
     Reported(u8),
     Refused,
+}
+
+// The number of a reason.
+pub fn reason_number(reason: Reason) -> u8
+    ensures { λ r. ⌜ r ≡ reasonNumber reason ⌝ }
+{
+    match reason {
+        Reason::NoCall => 1,
+        Reason::TooShort => 2,
+        Reason::OtherProtocol => 3,
+        Reason::TransactionMismatch => 4,
+        Reason::OtherIdentity => 5,
+        Reason::CommFalse => 6,
+    }
 }
 
 impl Seen {

@@ -5,6 +5,7 @@ ghost use Rattle.call.specs.Due.{settled};
 ghost use Rattle.call.specs.Step.{parametersAfter, valueAfter, referenceAfter, afterwards, noStep, ignored, reportedWith, statusTold, parametersSet, carriedOut, stepValue};
 use call::Due;
 use call::Event;
+use call::Reason;
 use call::Seen;
 use call::Settled;
 use codes::attributes::Parameters;
@@ -86,18 +87,21 @@ fn refuse(context: Context) -> Settled
 {
     Settled {
         answer: 3,
+        reason: 0,
         context,
         actions: 0,
         sends: Send::Nothing,
     }
 }
 
-// A message that is ignored.
-fn ignore(context: Context) -> Settled
-    ensures { λ r. ⌜ r ≡ ignored context ⌝ }
+// A message that is ignored, for this reason.
+fn ignore(context: Context, reason: Reason) -> Settled
+    ensures { λ r. ⌜ r ≡ ignored reason context ⌝ }
 {
+    let number = call::reason_number(reason);
     Settled {
         answer: 1,
+        reason: number,
         context,
         actions: 0,
         sends: Send::Nothing,
@@ -112,12 +116,13 @@ fn report(context: Context, cause: u8) -> Settled
     if parameters.comm {
         return Settled {
             answer: 2,
+            reason: 0,
             context,
             actions: 0,
             sends: Send::ErrorStatus(cause),
         };
     }
-    ignore(context)
+    ignore(context, Reason::CommFalse)
 }
 
 // GET STATUS: a STATUS with cause 30 if COMM is true, else ignored.
@@ -128,12 +133,13 @@ fn tell_status(context: Context) -> Settled
     if told.comm {
         return Settled {
             answer: 0,
+            reason: 0,
             context,
             actions: 0,
             sends: Send::Status(30),
         };
     }
-    ignore(context)
+    ignore(context, Reason::CommFalse)
 }
 
 // SET PARAMETER: consistent values are set, inconsistent ones are reported with the cause that 6.5.1.2 names.
@@ -154,6 +160,7 @@ fn set_parameters(context: Context, attributes: u8) -> Settled
         };
         return Settled {
             answer: 0,
+            reason: 0,
             context: set,
             actions: 0,
             sends: Send::Nothing,
@@ -172,13 +179,14 @@ fn carry_out(context: Context, decision: Decision, seen: Seen) -> Settled
             let sends = taken.sends;
             Settled {
                 answer: 0,
+                reason: 0,
                 context: after,
                 actions: taken.actions,
                 sends,
             }
         }
         Decision::NoStep => refuse(context),
-        Decision::Ignore => ignore(context),
+        Decision::Ignore => ignore(context, Reason::NoCall),
         Decision::Report(cause) => report(context, cause),
         Decision::TellStatus => tell_status(context),
         Decision::SetParameters => set_parameters(context, seen.attributes),
@@ -200,7 +208,7 @@ pub fn settle(context: Context, due: Due) -> Settled
 {
     match due {
         Due::Steps(event) => step(context, event),
-        Due::Ignored => ignore(context),
+        Due::Ignored(reason) => ignore(context, reason),
         Due::Reported(cause) => report(context, cause),
         Due::Refused => refuse(context),
     }

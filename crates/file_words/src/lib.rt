@@ -1,8 +1,9 @@
-// The words that work on files: settings, show, judge, record, pcap, timeline. Each answers its verdict: 0 fine, 1 refused, 2 could not run.
+// The words that work on files: settings, show, judge, ignored, record, pcap, timeline. Each answers its verdict: 0 fine, 1 refused, 2 could not run.
 ghost use mathlib.Core.Path.{_≡_};
 ghost use lib.ListN.{length};
 use capture_words::write_capture;
 use filing::read_file;
+use ignored_words::tell_ignored;
 use judge_words::tell_judged;
 use log_words::tell_log;
 use saying::complain;
@@ -22,7 +23,10 @@ pub struct Ran {
 // Runs the word.
 pub fn run(word: &[u8]) -> Ran {
     if same(word, b"judge") {
-        return with_verdict(run_judge());
+        return with_verdict(run_on_log(word, false));
+    }
+    if same(word, b"ignored") {
+        return with_verdict(run_on_log(word, true));
     }
     if same(word, b"show") {
         return with_verdict(run_show());
@@ -135,27 +139,31 @@ fn settings_argument(word: &[u8]) -> Fitted {
     }
 }
 
-fn run_judge() -> u8 {
-    if !has_arguments(2, b"judge", b"two arguments, a settings file and a log") {
+// The words that take a settings file and a log: `judge`, and `ignored`, which lists.
+fn run_on_log(word: &[u8], lists: bool) -> u8 {
+    if !has_arguments(2, word, b"two arguments, a settings file and a log") {
         return 2;
     }
-    let fitted = settings_argument(b"judge");
+    let fitted = settings_argument(word);
     if fitted.verdict != 0 {
         return fitted.verdict;
     }
     let settings = fitted.settings;
-    judge_log(settings)
+    tell_of_log(word, settings, lists)
 }
 
-fn judge_log(settings: Settings) -> u8 {
+fn tell_of_log(word: &[u8], settings: Settings, lists: bool) -> u8 {
     let mut name = io::buffer();
     let length = os::arg(3, &mut name);
     let mut log = log_room();
-    let filed = read_file(b"judge", part(&name, 0, length), &mut log);
+    let filed = read_file(word, part(&name, 0, length), &mut log);
     if !filed.good {
         return 2;
     }
     let count = filed.count;
+    if lists {
+        return tell_ignored(settings, part(&log, 0, count));
+    }
     tell_judged(settings, part(&log, 0, count))
 }
 

@@ -56,6 +56,19 @@ fn tell_judge_help() {
     );
 }
 
+fn tell_ignored_help() {
+    tell(
+        b"usage: heidezirkel ignored SETTINGS LOG\n\
+          Lists the messages that the radio ignored: entry, time, state, kind of message, the reason and its particulars; at the end\n\
+          how many were ignored for each reason. The reasons, of which the first that applies is told:\n  \
+          1 no call               2 too short         3 other protocol\n  \
+          4 transaction mismatch  5 other identity    6 COMM false\n\
+          It lists up to where the judge explains the log; where the log is refused, the entry is told, and nothing behind it is listed.\n\
+          A settings file that is refused stops it at its line.\n\
+          Exit status: 0 the whole log is explained, 1 it is refused, 2 a file can't be opened.\n",
+    );
+}
+
 fn tell_pcap_help() {
     tell(
         b"usage: heidezirkel pcap LOG FILE\n\
@@ -79,6 +92,7 @@ fn tell_record_help() {
           join, terminate, release, mm-established, mm-failed, link-failure, abort, receive-mode-entered, no-channel,\n          \
           channel-available, t-mm-est-expired, t-term-expired, t-conn-req-expired, t-no-channel-expired: no DATA\n\
           A line that can't be read, or whose step gives an answer that no log holds, is told with what is wanted, and no log is made.\n\
+          Each message that is recorded as ignored is told, with the reason.\n\
           Exit status: 0 the log is made, 1 the settings or the script are refused, 2 a file can't be opened or written.\n",
     );
 }
@@ -97,6 +111,10 @@ fn tell_timeline_help() {
 pub(crate) fn tell_help_of(word: &[u8]) -> bool {
     if same(word, b"judge") {
         tell_judge_help();
+        return true;
+    }
+    if same(word, b"ignored") {
+        tell_ignored_help();
         return true;
     }
     if same(word, b"show") {

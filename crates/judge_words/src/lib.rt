@@ -4,8 +4,8 @@ pub mod claim;
 mod refusal;
 
 use log_words::entry::tell_long;
-use message::Classmark;
 use refusal::tell_refusal;
+use replay::own_of;
 use reply::Own;
 use saying::tell;
 use saying::tell_count;
@@ -13,19 +13,6 @@ use saying::tell_place;
 use settings_values::Settings;
 use text::words::part;
 use verdict::Judged;
-
-// What the messages of a radio with these settings hold of its own.
-pub fn own_of(settings: Settings) -> Own {
-    let classmark = settings.classmark;
-    Own {
-        key: settings.key,
-        classmark: Classmark {
-            first: classmark[0],
-            second: classmark[1],
-            third: classmark[2],
-        },
-    }
-}
 
 // Judges a log by the settings of a radio, and answers the verdict.
 pub fn tell_judged(settings: Settings, log: &[u8]) -> u8 {

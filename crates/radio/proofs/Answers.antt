@@ -20,7 +20,7 @@ use Rattle.reply.specs.Reply.{replyOf}
 use Rattle.reply.proofs.Fits.{reply-short}
 use Rattle.radio.specs.declared.Happened.{Happened}
 use Rattle.radio.specs.Step.{dueTo, reactedTo, Reaction, refused, reacted, stepOf}
-use Rattle.radio.proofs.Range.{refused-most}
+use Rattle.radio.proofs.Range.{refused-most, refused-not-1}
 use Rattle.radio.proofs.Reacting.{of-step, react-fit}
 
 -- Whatever is due keeps what the answers promise.
@@ -29,16 +29,26 @@ unfolding reactedTo
 react-right identity x h s = settled-right x (dueTo identity x h s)
 
 -- What a reaction's answer says: it is a number of the table, 0 to 7; any but 0 keeps the context and has no actions; any but 0 and 2 writes nothing.
--- Its actions are at most 63.
+-- Its actions are at most 63. Answer 1 has a reason of 1 to 6 beside it, and every other answer 0.
 pub record Honest (x : Context) (r : Reaction) : Type 0 where
   pub numbered : r .answer ≤ 7
   pub kept : (r .answer ≡ 0 → ⊥) → r .context ≡ x
   pub still : (r .answer ≡ 0 → ⊥) → r .actions ≡ 0
   pub silent : (r .answer ≡ 0 → ⊥) → (r .answer ≡ 2 → ⊥) → r .reply ≡ []
   pub few : r .actions ≤ 63
+  pub told : r .answer ≡ 1 → (1 ≤ r .reason) × (r .reason ≤ 6)
+  pub untold : (r .answer ≡ 1 → ⊥) → r .reason ≡ 0
 
-refused-honest : (x : Context) (answer : ℕ) → answer ≤ 7 → Honest x (refused answer x)
-refused-honest x answer most = record { numbered = most; kept = λ n. refl; still = λ n. refl; silent = λ n m. refl; few = omega arith }
+refused-honest : (x : Context) (answer : ℕ) → answer ≤ 7 → (answer ≡ 1 → ⊥) → Honest x (refused answer x)
+refused-honest x answer most other = record {
+  numbered = most;
+  kept = λ n. refl;
+  still = λ n. refl;
+  silent = λ n m. refl;
+  few = omega arith;
+  told = λ e. absurd (other e);
+  untold = λ n. refl;
+}
 
 unsent : (own : Own) (identity s : List ℕ) (x : Context) (sends : Send) → sends ≡ Nothing → replyOf own identity s x sends ≡ []
 unfolding replyOf
@@ -51,12 +61,14 @@ reacted-honest own identity s x t r = record {
   still = r .still;
   silent = λ n m. unsent own identity s (t .context) (t .sends) (r .silent n m);
   few = r .few;
+  told = r .told;
+  untold = r .untold;
 }
 
 -- Every call is answered 0 to 7. Answers 1 and 3 to 7 change nothing lent, and 2 keeps the context.
 pub step-honest : (own : Own) (identity : List ℕ) (room : ℕ) (x : Context) (h : Happened) (s : List ℕ) → Honest x (stepOf own identity room x h s)
 step-honest own identity room x h s =
-    of-step own identity room x h s (Honest x) (refused-honest x _ (refused-most x (own .key) (length identity) h (length s) room))
+    of-step own identity room x h s (Honest x) (refused-honest x _ (refused-most x (own .key) (length identity) h (length s) room) (refused-not-1 x (own .key) (length identity) h (length s) room))
     (λ o. reacted-honest own identity s x (reactedTo identity x h s) (react-right identity x h s))
 
 -- A step from a fit context ends in a fit one.

@@ -2,4 +2,5 @@ pub mod Numbers
 pub mod Range
 pub mod Reacting
 pub mod Answers
+pub mod Reasons
 pub mod Coincide

@@ -3,7 +3,7 @@
 use Prim.Native.Nat.{ℕ, suc, _+_, _≤_, _<_}
 use mathlib.Core.Path.{_≡_, refl, sym, _∙_}
 use mathlib.Core.List.{List, [], _∷_}
-use mathlib.Core.Bool.{cond, _||_}
+use mathlib.Core.Bool.{false, cond, _||_}
 use native.Mathlib.Omega.{arith}
 use lib.Dec.{eqb}
 use lib.ListN.{length}
@@ -108,3 +108,17 @@ number-of-event Event.TermExpired n = refl
 number-of-event Event.ConnReqExpired n = refl
 number-of-event Event.NoChannelExpired n = refl
 number-of-event (Event.Received mode m) n = elim (n (message-number m)) [ ]
+
+-- No event of a number is a message received.
+abbrev pub NoMessage : Told → Type 0
+NoMessage (Is event) = eqb (seenOf event .number) 18 ≡ false
+NoMessage NoEvent = Unit {0}
+
+pub no-message : (n v : ℕ) (r : Reference) → NoMessage (eventOf n v r)
+unfolding eventOf seenOf
+no-message n v r =
+    at-rows NoMessage n NoEvent (events v r) (
+      (λ e. refl),
+      ((λ e. refl), ((λ e. refl), ((λ e. refl), ((λ e. refl), ((λ e. refl), ((λ e. refl), ((λ e. refl), ((λ e. refl), ((λ e. refl), ((λ e. refl), ((λ e. refl), ((λ e. refl), ((λ e. refl), ((λ e. refl), ((λ e. refl), ((λ e. refl), tt)))))))))))))))),
+    )
+    (λ a. tt)

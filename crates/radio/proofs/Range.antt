@@ -83,6 +83,13 @@ refused-over x key identity h octets room = go (not (fitOf x)) (ltb room 255) (e
     go false false false true n = omega arith
     go false false false false n = absurd (n refl)
 
+-- So it is never 1.
+pub refused-not-1 : (x : Context) (key identity : ℕ) (h : Happened) (octets room : ℕ) → refusalOf x key identity h octets room ≡ 1 → ⊥
+refused-not-1 x key identity h octets room e =
+    let n : refusalOf x key identity h octets room ≡ 0 → ⊥ = λ z. omega (arith, e, z) in
+    let o : 3 < refusalOf x key identity h octets room = refused-over x key identity h octets room n in
+    omega (arith, e, o)
+
 pub refused-most : (x : Context) (key identity : ℕ) (h : Happened) (octets room : ℕ) → refusalOf x key identity h octets room ≤ 7
 unfolding refusalOf fitnessRefusal argumentRefusal
 refused-most x key identity h octets room = go (not (fitOf x)) (ltb room 255) (eqb (h .number) 18 && ltb 251 octets) (outOfRange key identity (h .number) (h .value) (h .mode))

@@ -68,7 +68,7 @@ pub react-fit : (identity : List ℕ) (x : Context) (h : Happened) (s : List ℕ
 unfolding reactedTo dueTo
 react-fit identity x h s key fit range =
     settled-fit x fit _
-    (at-cond DueFit (eqb (h .number) 18) _ _ (λ e. every-due DueFit tt (λ cause. tt) received-value identity x (h .mode) s)
+    (at-cond DueFit (eqb (h .number) 18) _ _ (λ e. every-due DueFit (λ reason. tt) (λ cause. tt) received-value identity x (h .mode) s)
     (λ e. told-fit (h .number) (h .value) (h .reference) (value-most key (length identity) h range)))
 
 -- The step by the number of its refusal.
@@ -102,7 +102,7 @@ module _ (own : Own) (identity d : List ℕ) (x : Context) (h : Happened) (s : L
 
   pub takes : (t : Settled) → t ≡ reactedTo identity x h s → (n : ℕ) (after : List ℕ)
       → (n ≡ length (putOf (length d) own identity s (t .context) (t .sends))) × (after ≡ sets d 0 (putOf (length d) own identity s (t .context) (t .sends)))
-      → Taking (record { context = t .context; outcome = record { answer = t .answer; actions = t .actions; count = n } }) after
+      → Taking (record { context = t .context; outcome = record { answer = t .answer; reason = t .reason; actions = t .actions; count = n } }) after
   unfolding takenOf
   takes t p n after w = rw (← p) (rw (w .0), w .1)
 

@@ -79,21 +79,23 @@ dueTo identity x h s = cond (eqb (h .number) 18) (dueOf identity x (h .mode) s) 
 unfoldable pub reactedTo : List ℕ → Context → Happened → List ℕ → Settled
 reactedTo identity x h s = settled x (dueTo identity x h s)
 
--- What a step comes to: answer number, context afterwards, actions, reply octets.
+-- What a step comes to: answer number, the reason beside answer 1, context afterwards, actions, reply octets.
 pub record Reaction : Type 0 where
   pub answer : ℕ
+  pub reason : ℕ
   pub context : Context
   pub actions : ℕ
   pub reply : List ℕ
 
 -- A refusal changes nothing lent.
 abbrev pub refused : ℕ → Context → Reaction
-refused answer x = record { answer = answer; context = x; actions = 0; reply = [] }
+refused answer x = record { answer = answer; reason = 0; context = x; actions = 0; reply = [] }
 
 -- A step that is not refused, with what it sends as octets.
 abbrev pub reacted : Own → List ℕ → List ℕ → Settled → Reaction
 reacted own identity s taken = record {
   answer = taken .answer;
+  reason = taken .reason;
   context = taken .context;
   actions = taken .actions;
   reply = replyOf own identity s (taken .context) (taken .sends);
@@ -121,6 +123,7 @@ takenOf own identity room x h s =
     let taken : Settled = reactedTo identity x h s in
     record {
       answer = taken .answer;
+      reason = taken .reason;
       context = taken .context;
       actions = taken .actions;
       reply = putOf room own identity s (taken .context) (taken .sends);
@@ -128,4 +131,4 @@ takenOf own identity room x h s =
 
 -- A reaction as the code's result: the reply's octets stand in the buffer, and the result has their count.
 abbrev pub shown : Reaction → Stepped
-shown r = record { context = r .context; outcome = record { answer = r .answer; actions = r .actions; count = length (r .reply) } }
+shown r = record { context = r .context; outcome = record { answer = r .answer; reason = r .reason; actions = r .actions; count = length (r .reply) } }

@@ -18,9 +18,11 @@ pub struct Happened {
     pub mode: u8,
 }
 
-// What a step answers: document 01's number, the actions, and how many octets of the reply buffer are the reply.
+// What a step answers: document 01's number, why a message was ignored (0 where none was), the actions, and how many octets of the reply buffer are
+// the reply.
 pub struct Outcome {
     pub answer: u8,
+    pub reason: u8,
     pub actions: u8,
     pub count: usize,
 }
@@ -131,6 +133,7 @@ fn refused(context: Context, answer: u8) -> Stepped
 {
     let outcome = Outcome {
         answer,
+        reason: 0,
         actions: 0,
         count: 0,
     };
@@ -158,6 +161,7 @@ pub fn take(
         context: after,
         outcome: Outcome {
             answer: taken.answer,
+            reason: taken.reason,
             actions: taken.actions,
             count,
         },

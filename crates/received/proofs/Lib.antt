@@ -3,3 +3,4 @@ pub mod Comparing
 pub mod Rules
 pub mod Coincide
 pub mod Faults
+pub mod Ignored

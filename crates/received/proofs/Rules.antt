@@ -22,6 +22,7 @@ use Rattle.context.specs.declared.Context.{Context}
 use Rattle.context.specs.States.{same, flagOf}
 use Rattle.call.specs.declared.Due.{Due}
 use Rattle.call.specs.declared.Due.the-variants.{Steps, Ignored, Reported}
+use Rattle.call.specs.declared.Reason.{Reason}
 use Rattle.call.specs.declared.Event.the-variants.{Received}
 use Rattle.received.specs.Received.{transactionIs, typeCause, askedOf, sameOctets, isOther, Within}
 use Rattle.received.specs.Due.{understoodDue, readingDue, dueOf}
@@ -62,11 +63,11 @@ module _ (identity : List ℕ) (x : Context) (mode : ℕ) (s : List ℕ) (ours :
     due-long e p = rw (ours .calling, ours .two, ours .broadcast, ours .transacted, none, e) p
 
 -- What holds of "ignored", of each report and of the step of each message holds of what is due to any octets.
-module _ (P : Due → Type 0) (ignored : P Ignored) (reported : (cause : ℕ) → P (Reported cause)) (steps : (mode : ℕ) (m : Message) → P (Steps (Received mode m))) where
+module _ (P : Due → Type 0) (ignored : (reason : Reason) → P (Ignored reason)) (reported : (cause : ℕ) → P (Reported cause)) (steps : (mode : ℕ) (m : Message) → P (Steps (Received mode m))) where
   every-understood : (identity : List ℕ) (mode : ℕ) (s : List ℕ) (m : Message) → P (understoodDue identity mode s m)
   unfolding understoodDue
   every-understood identity mode s m =
-      at-cond P (eqb mode 1 && isOther identity s (askedOf m .identity)) _ _ (λ e. ignored)
+      at-cond P (eqb mode 1 && isOther identity s (askedOf m .identity)) _ _ (λ e. ignored _)
       (λ e. at-cond P (askedOf m .disowns) _ _ (λ e. reported 95) (λ e. steps mode m))
 
   every-read : (identity : List ℕ) (mode : ℕ) (s : List ℕ) (r : Reading) → P (readingDue (understoodDue identity mode s) r)
@@ -78,9 +79,9 @@ module _ (P : Due → Type 0) (ignored : P Ignored) (reported : (cause : ℕ) �
   pub every-due : (identity : List ℕ) (x : Context) (mode : ℕ) (s : List ℕ) → P (dueOf identity x mode s)
   unfolding dueOf
   every-due identity x mode s =
-      at-cond P (same (x .state) U0) _ _ (λ e. ignored)
-      (λ e. at-cond P (ltb (length s) 2) _ _ (λ e. ignored)
-      (λ e. at-cond P (not (eqb (getD s 0 0 % 16) discriminator)) _ _ (λ e. ignored)
-      (λ e. at-cond P (not (transactionIs (flagOf x) (x .value) (getD s 0 0))) _ _ (λ e. ignored)
+      at-cond P (same (x .state) U0) _ _ (λ e. ignored _)
+      (λ e. at-cond P (ltb (length s) 2) _ _ (λ e. ignored _)
+      (λ e. at-cond P (not (eqb (getD s 0 0 % 16) discriminator)) _ _ (λ e. ignored _)
+      (λ e. at-cond P (not (transactionIs (flagOf x) (x .value) (getD s 0 0))) _ _ (λ e. ignored _)
       (λ e. at-cond P (not (eqb (typeCause x (getD s 1 0)) 0)) _ _ (λ e. reported (typeCause x (getD s 1 0)))
       (λ e. every-read identity mode s (readMessage s))))))

@@ -1,4 +1,4 @@
--- Document 01, "Received messages, in this order": the six rules, as what is due to a message. `call/specs/Due: settled` says what each comes to.
+-- Document 01, "Received messages, in this order": the six rules, as what is due to a message, and why where it is ignored. `call/specs/Due: settled` says what each comes to.
 use Prim.Native.Nat.{ℕ, _%_}
 use mathlib.Core.List.{List}
 use mathlib.Core.Bool.{cond, not, _&&_}
@@ -15,13 +15,14 @@ use Rattle.context.specs.States.{same, flagOf}
 use Rattle.call.specs.declared.Due.{Due}
 use Rattle.call.specs.declared.Due.the-variants.{Steps, Ignored, Reported}
 use Rattle.call.specs.declared.Event.the-variants.{Received}
+use Rattle.call.specs.declared.Reason.the-variants.{NoCall, TooShort, OtherProtocol, TransactionMismatch, OtherIdentity}
 use Rattle.received.specs.Received.{transactionIs, typeCause, askedOf, mustNameUs, isOther}
 
 -- Rules 4 to 6, of a message that can be read.
 unfoldable pub understoodDue : List ℕ → ℕ → List ℕ → Message → Due
 understoodDue identity mode s message =
     -- 4. Received in unacknowledged mode with a mobile identity other than ours: ignored.
-    cond (eqb mode 1 && isOther identity s (askedOf message .identity)) Ignored
+    cond (eqb mode 1 && isOther identity s (askedOf message .identity)) (Ignored OtherIdentity)
     -- 5. CONNECT that doesn't name us as originator: reported as "semantically incorrect message", 95.
     (cond (mustNameUs && askedOf message .disowns) (Reported 95)
     -- 6. The step.
@@ -38,10 +39,10 @@ readingDue go TooLong = Reported 96
 unfoldable pub dueOf : List ℕ → Context → ℕ → List ℕ → Due
 dueOf identity x mode s =
     -- 1. U0, under 2 octets, low four bits of octet 1 not 1, or transaction mismatch: ignored.
-    cond (same (x .state) U0) Ignored
-    (cond (ltb (length s) 2) Ignored
-    (cond (not (eqb (getD s 0 0 % 16) discriminator)) Ignored
-    (cond (not (transactionIs (flagOf x) (x .value) (getD s 0 0))) Ignored
+    cond (same (x .state) U0) (Ignored NoCall)
+    (cond (ltb (length s) 2) (Ignored TooShort)
+    (cond (not (eqb (getD s 0 0 % 16) discriminator)) (Ignored OtherProtocol)
+    (cond (not (transactionIs (flagOf x) (x .value) (getD s 0 0))) (Ignored TransactionMismatch)
     -- 2. Unknown type: reported. A type with no row or sentence above in this state, or one the MS sends: reported as not compatible with the state.
     (cond (not (eqb (typeCause x (getD s 1 0)) 0)) (Reported (typeCause x (getD s 1 0)))
     -- 3. to 6.

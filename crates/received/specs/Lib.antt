@@ -1,2 +1,3 @@
 pub mod Received
 pub mod Due
+pub mod Ignored

@@ -7,6 +7,7 @@ ghost use Rattle.received.specs.Received.{sameOctets, transactionIs, cau
 ghost use Rattle.received.specs.Due.{dueOf, understoodDue};
 use call::Due;
 use call::Event;
+use call::Reason;
 use context::Context;
 use element::Run;
 use message::Identity;
@@ -125,7 +126,7 @@ fn understand(identity: &[u8], mode: u8, octets: &[u8], message: Message) -> Due
     let named = asked.identity;
     let other = is_other(named, octets, identity);
     if (mode == 1) & other {
-        return Due::Ignored;
+        return Due::Ignored(Reason::OtherIdentity);
     }
     if asked.disowns {
         return Due::Reported(95);
@@ -139,18 +140,18 @@ pub fn listen(context: Context, identity: &[u8], mode: u8, octets: &[u8]) -> Due
 {
     let state = context.state;
     if context::state_number(state) == 0 {
-        return Due::Ignored;
+        return Due::Ignored(Reason::NoCall);
     }
     if octets.len() < 2 {
-        return Due::Ignored;
+        return Due::Ignored(Reason::TooShort);
     }
     let first = octets[0];
     if first % 16 != 1 {
-        return Due::Ignored;
+        return Due::Ignored(Reason::OtherProtocol);
     }
     let flag = context::expected_flag(context);
     if !transaction_is(flag, context.value, first) {
-        return Due::Ignored;
+        return Due::Ignored(Reason::TransactionMismatch);
     }
     let cause = type_cause(context, octets[1]);
     if cause != 0 {

@@ -1,5 +1,5 @@
 // A log made from a script of events: each event goes through the step of a radio with given settings, and what the step gives is recorded. The
-// times of a script are not judged, so that a script can tell of a bad radio too.
+// times of a script are not judged, so that a script can tell of a bad radio too. Each message that is recorded as ignored is told, with the reason.
 mod making;
 mod refusal;
 
@@ -8,10 +8,12 @@ ghost use lib.ListN.{length};
 use filing::close_file;
 use filing::create_file;
 use filing::read_file;
-use judge_words::own_of;
+use ignored_words::list;
 use making::Made;
 use making::make;
 use refusal::tell_too_long;
+use replay::own_of;
+use reply::Own;
 use saying::tell;
 use saying::tell_count;
 use settings_values::Settings;
@@ -38,19 +40,32 @@ pub fn run(settings: Settings, script_path: &[u8], log_path: &[u8]) -> u8 {
     let count = filed.count;
     let identity = settings.identity;
     let named = settings.count;
-    let own = own_of(settings);
-    let mut log = io::large_buffer();
-    let made = make(
-        own,
+    record_script(
+        own_of(settings),
         part(&identity, 0, named),
         script_path,
         part(&script, 0, count),
-        &mut log,
-    );
-    match made {
-        Made::Refused => 1,
-        Made::Whole(entries, used) => write_log(log_path, part(&log, 0, used), entries),
+        log_path,
+    )
+}
+
+// Makes the log and writes it, and then tells what it has of ignored messages.
+fn record_script(
+    own: Own,
+    identity: &[u8],
+    script_path: &[u8],
+    script: &[u8],
+    log_path: &[u8],
+) -> u8 {
+    let mut log = io::large_buffer();
+    let Made::Whole(entries, used) = make(own, identity, script_path, script, &mut log) else {
+        return 1;
+    };
+    let verdict = write_log(log_path, part(&log, 0, used), entries);
+    if verdict == 0 {
+        list(own, identity, part(&log, 0, used), entries);
     }
+    verdict
 }
 
 fn write_log(path: &[u8], log: &[u8], entries: usize) -> u8 {

@@ -164,7 +164,7 @@ fn say_step(
         StateTold::NoState => {
             let answer = say(buffer, output, b"7 ");
             let same = say_lent(buffer, answer, lent);
-            say(buffer, same, b" 0 -\n")
+            say(buffer, same, b" 0 - 0\n")
         }
     }
 }
@@ -198,7 +198,14 @@ fn say_outcome(buffer: &mut [u8], output: Output, stepped: Stepped, reply: &[u8;
     let count = outcome.count;
     let after = say_after(buffer, output, stepped);
     let sent = say_octets(buffer, after, part(reply, 0, count));
-    say(buffer, sent, b"\n")
+    say_reason(buffer, sent, outcome.reason)
+}
+
+// The last token: why the message was ignored, 0 where none was.
+fn say_reason(buffer: &mut [u8], output: Output, reason: u8) -> Output {
+    let space = say(buffer, output, b" ");
+    let number = say_number(buffer, space, reason);
+    say(buffer, number, b"\n")
 }
 
 // The answer, the context afterwards and the actions.

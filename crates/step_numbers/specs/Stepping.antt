@@ -26,7 +26,7 @@ happenedOf e = record {
 
 -- An outcome in C's numbers.
 abbrev pub stepShown : Outcome → Step
-stepShown o = record { answer = o .answer; actions = o .actions; count = o .count }
+stepShown o = record { answer = o .answer; reason = o .reason; actions = o .actions; count = o .count }
 
 -- What a call comes to: the step in C's numbers, the context's octets afterwards, and the octets of the reply.
 pub record Call : Type 0 where
@@ -48,7 +48,7 @@ callFrom s room e m x = called (stepOf (ownOf s) (identityOf s) room x (happened
 
 -- Answer 7 and nothing changed, where they are none.
 abbrev pub noCall : List ℕ → Call
-noCall c = record { step = record { answer = 7; actions = 0; count = 0 }; context = c; reply = [] }
+noCall c = record { step = record { answer = 7; reason = 0; actions = 0; count = 0 }; context = c; reply = [] }
 
 unfoldable pub callOn : (context settings : List ℕ) (room : ℕ) → Event → (message : List ℕ) → Reading → Call
 callOn c s room e m (Is x) = callFrom s room e m x

@@ -31,6 +31,7 @@ pub struct Event {
 #[repr(C)]
 pub struct Step {
     pub answer: u32,
+    pub reason: u32,
     pub actions: u32,
     pub count: usize,
 }
@@ -66,6 +67,7 @@ fn step_shown(outcome: Outcome) -> Step
 {
     Step {
         answer: outcome.answer as u32,
+        reason: outcome.reason as u32,
         actions: outcome.actions as u32,
         count: outcome.count,
     }
@@ -134,6 +136,7 @@ pub fn take_step(
         Reading::Is(from) => step_from(from, context, settings, event, message, reply),
         Reading::NoContext => Step {
             answer: 7,
+            reason: 0,
             actions: 0,
             count: 0,
         },

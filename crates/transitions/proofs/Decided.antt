@@ -1,6 +1,6 @@
 -- What sound rows decide.
 use Prim.Native.Nat.{ℕ}
-use mathlib.Core.Path.{_≡_, sym}
+use mathlib.Core.Path.{_≡_, sym, _∙_}
 use mathlib.Core.List.{List}
 use mathlib.Core.Bool.{true, false, cond}
 use lib.Dec.{eqb, leb}
@@ -33,10 +33,19 @@ OfTaken P SetParameters = Unit {0}
 abbrev pub Plain : Decision → Type 0
 Plain (Take d) = isPlain (d .sends) ≡ true
 Plain NoStep = Unit {0}
-Plain Ignore = Unit {0}
+Plain Ignore = ⊥
 Plain (Report cause) = ⊥
 Plain TellStatus = ⊥
 Plain SetParameters = ⊥
+
+-- The table ignores nothing.
+abbrev pub Listens : Decision → Type 0
+Listens (Take d) = Unit {0}
+Listens NoStep = Unit {0}
+Listens Ignore = ⊥
+Listens (Report cause) = Unit {0}
+Listens TellStatus = Unit {0}
+Listens SetParameters = Unit {0}
 
 abbrev pub SetRightly : Context → Taken → Type 0
 SetRightly x d =
@@ -54,24 +63,29 @@ module _ (fitness : Fitness) (most : ℕ) (table : List Row) (sound : Sound fitn
   -- Actions are at most their sum.
   pub decided-few : (n code : ℕ) → OfTaken (λ d. leb (d .actions) most ≡ true) (decidedBy table x n code)
   decided-few =
-      decided-holds (atMost most) (λ k. OfTaken (λ d. leb (d .actions) most ≡ true)) x (λ k d e. e) (λ k. tt) (λ cause. tt) table (sound .actions-few) tt tt (λ u. tt)
+      decided-holds (atMost most) (λ k. OfTaken (λ d. leb (d .actions) most ≡ true)) x (λ k d e. e) (λ k. tt) (λ cause. tt) table (sound .actions-few) (λ u. tt) tt (λ u. tt)
+
+  -- Outside U0 the table itself ignores nothing.
+  pub decided-listens : same (x .state) U0 ≡ false → (n code : ℕ) → Listens (decidedBy table x n code)
+  decided-listens calling =
+      decided-holds (atMost most) (λ k. Listens) x (λ k d e. tt) (λ k. tt) (λ cause. tt) table (sound .actions-few) (λ u. never (sym calling ∙ u)) tt (λ u. tt)
 
   -- What fits stays fit, as far as timers go; SET PARAMETER is not in U0, which is cleared.
   pub decided-keeps : (n code : ℕ) → Keeps fitness x (decidedBy table x n code)
-  decided-keeps = decided-holds (keepsFit fitness) (λ k. Keeps fitness x) x (λ k d e. e) (λ k. tt) (λ cause. tt) table (sound .fit-kept) tt tt (λ u. u)
+  decided-keeps = decided-holds (keepsFit fitness) (λ k. Keeps fitness x) x (λ k d e. e) (λ k. tt) (λ cause. tt) table (sound .fit-kept) (λ u. tt) tt (λ u. u)
 
   -- No timer is set anew while it runs: in a fit context a row that is taken sets none that runs.
   pub sets-fresh : fitBy fitness x ≡ true → (n code : ℕ) → OfTaken (λ d. isOn (d .sets) (x .timers) ≡ false) (decidedBy table x n code)
   sets-fresh fit =
       decided-holds (setsFresh fitness) (λ k. OfTaken (λ d. isOn (d .sets) (x .timers) ≡ false)) x
-      (λ k d e. not-true _ (if-so _ _ e (fit-timers fitness x fit))) (λ k. tt) (λ cause. tt) table (sound .set-fresh) tt tt (λ u. tt)
+      (λ k d e. not-true _ (if-so _ _ e (fit-timers fitness x fit))) (λ k. tt) (λ cause. tt) table (sound .set-fresh) (λ u. tt) tt (λ u. tt)
 
   -- The timer that is set did not run, and runs afterwards; where none is set, the one that runs is the one that ran.
   pub sets-rightly : fitBy fitness x ≡ true → (n code : ℕ) → OfTaken (SetRightly x) (decidedBy table x n code)
   sets-rightly fit =
-      decided-holds (setsRightly fitness) (λ k. OfTaken (SetRightly x)) x (λ k d e. if-so _ _ e (fit-timers fitness x fit)) (λ k. tt) (λ cause. tt) table (sound .set-rightly) tt tt (λ u. tt)
+      decided-holds (setsRightly fitness) (λ k. OfTaken (SetRightly x)) x (λ k d e. if-so _ _ e (fit-timers fitness x fit)) (λ k. tt) (λ cause. tt) table (sound .set-rightly) (λ u. tt) tt (λ u. tt)
 
   pub event-plain : (n code : ℕ) → eqb n 18 ≡ false → Plain (decidedBy table x n code)
   event-plain =
-      decided-holds sendsPlain (λ k c. eqb k 18 ≡ false → Plain c) x (λ k d e f. e) (λ k f. tt) (λ cause f. never (sym f)) table (sound .sent-plain) (λ f. tt)
+      decided-holds sendsPlain (λ k c. eqb k 18 ≡ false → Plain c) x (λ k d e f. e) (λ k f. tt) (λ cause f. never (sym f)) table (sound .sent-plain) (λ u f. never (sym f))
       (λ f. never (sym f)) (λ u f. never (sym f))

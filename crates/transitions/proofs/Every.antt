@@ -131,13 +131,13 @@ module _ (test : Test) (P : ℕ → Decision → Type 0) (x : Context) (takes : 
       (and-left (atPlaces test places 18 next actions effects) _ e) (reports 98) (λ d p. (p, rest)) rest
 
   -- Whatever a table decides, where every row passes the test.
-  pub decided-holds : (table : List Row) → passes test table ≡ true → P 18 Ignore → P 18 TellStatus → (same (x .state) U0 ≡ false → P 18 SetParameters)
+  pub decided-holds : (table : List Row) → passes test table ≡ true → (same (x .state) U0 ≡ true → P 18 Ignore) → P 18 TellStatus → (same (x .state) U0 ≡ false → P 18 SetParameters)
       → (n code : ℕ) → P n (decidedBy table x n code)
   unfolding decidedBy decidedIn heardIn happenedIn
   decided-holds table e ignores tells sets n code =
       at-cond (P n) (eqb n 18) _ _
       (λ k. subst (λ m. P m (heardIn table (x .state) x code)) (sym (eqb-true n 18 k))
-      (at-cond (P 18) (same (x .state) U0) Ignore _ (λ q. ignores)
+      (at-cond (P 18) (same (x .state) U0) Ignore _ ignores
       (λ q. every (λ k d. P 18 d) code (Report 97) (typesIn table (x .state) x) (reports 97)
       (both (λ k d. P 18 d) (messagesIn (x .state) x table) _ (messages-hold table e)
       (tells, (sets q, (reports 98, (reports 98, (reports 98, (reports 98, (reports 98, (reports 98, (reports 98, (reports 98, (reports 98, tt)))))))))))))))

@@ -6,7 +6,6 @@ use mathlib.Core.List.{List, []}
 use lib.Dec.{eqb}
 use borrow.Author.Tests.{eqb-true}
 use Rattle.octets.proofs.Choice.{never}
-use Rattle.octets.proofs.Rows.{at-rows}
 use Rattle.message.specs.declared.Reference.{Reference}
 use Rattle.context.specs.declared.Context.{Context}
 use Rattle.transitions.specs.declared.Send.{Send}
@@ -21,32 +20,17 @@ use Rattle.call.specs.declared.Seen.{Seen}
 use Rattle.call.specs.declared.Settled.{Settled}
 use Rattle.call.specs.Due.{settledBy, settled}
 use Rattle.call.specs.Events.{seenOf}
-use Rattle.call.specs.Step.{ignored, noStep, carriedOut, stepBy}
+use Rattle.call.specs.Step.{noStep, carriedOut, stepBy}
 use Rattle.reply.specs.declared.Own.{Own}
 use Rattle.reply.specs.Reply.{replyOf}
 use Rattle.step_arguments.specs.Arguments.{outOfRange, argumentRefusal}
 use Rattle.radio.specs.declared.Told.{Told}
 use Rattle.radio.specs.declared.Told.the-variants.{Is, NoEvent}
-use Rattle.radio.specs.Step.{events, eventOf, toldDue, dueTo, reactedTo, refusalOf, reacted, stepOf}
+use Rattle.radio.specs.Step.{eventOf, toldDue, dueTo, reactedTo, refusalOf, reacted, stepOf}
+use Rattle.radio.proofs.Numbers.{NoMessage, no-message}
 use Rattle.log_data.specs.Reading.{carriesCall, noReference}
 use Rattle.verdict.specs.Table.{GivenEvent, stepped}
 use Rattle.verdict.specs.Entries.{callReference, carriedBy}
-
--- ---- events and messages
-
--- No event of a number is a message received.
-abbrev pub NoMessage : Told → Type 0
-NoMessage (Is event) = eqb (seenOf event .number) 18 ≡ false
-NoMessage NoEvent = Unit {0}
-
-pub no-message : (n v : ℕ) (r : Reference) → NoMessage (eventOf n v r)
-unfolding eventOf seenOf
-no-message n v r =
-    at-rows NoMessage n NoEvent (events v r) (
-      (λ e. refl),
-      ((λ e. refl), ((λ e. refl), ((λ e. refl), ((λ e. refl), ((λ e. refl), ((λ e. refl), ((λ e. refl), ((λ e. refl), ((λ e. refl), ((λ e. refl), ((λ e. refl), ((λ e. refl), ((λ e. refl), ((λ e. refl), ((λ e. refl), ((λ e. refl), tt)))))))))))))))),
-    )
-    (λ a. tt)
 
 -- ---- only the answer to a message copies it
 
@@ -63,10 +47,10 @@ abbrev PlainTaken : Settled → Type 0
 PlainTaken t = isPlain (t .sends) ≡ true
 
 carried-plain : (x : Context) (d : Decision) (e : Seen) → Plain d → PlainTaken (carriedOut firstFitness x d e)
-unfolding carriedOut noStep ignored
+unfolding carriedOut noStep
 carried-plain x (Take d) e p = p
 carried-plain x NoStep e p = refl
-carried-plain x Ignore e p = refl
+carried-plain x Ignore e p = absurd p
 carried-plain x (Report cause) e p = absurd p
 carried-plain x TellStatus e p = absurd p
 carried-plain x SetParameters e p = absurd p

@@ -5,8 +5,9 @@ use crate::answer::CONTEXT_NOT_FIT;
 use crate::context::Context;
 use crate::event::Event;
 use crate::own::Own;
+use crate::reason::NO_REASON;
 use crate::state::{Parameters, State};
-use crate::step::step as take_step;
+use crate::step::{step as take_step, Outcome};
 use crate::timer::RunningTimers;
 
 /// `step STATE PARAMS TIMERS TV REF CKSN CLASSMARK IDENTITY BUFLEN EVENT ETV EREF MODE OCTETS`
@@ -35,16 +36,9 @@ pub fn step(fields: &[&[u8]]) -> Option<String> {
     match State::from_number(state_number) {
         Some(state) => context.state = state,
         // A number that is no state is not fit, whatever stands beside it.
-        None => return Some(form(CONTEXT_NOT_FIT, state_number, &context, 0, &[])),
+        None => return Some(no_state(state_number, &context)),
     }
-    let outcome = take_step(&context, &own, buffer_length, &event);
-    Some(form(
-        outcome.answer,
-        outcome.context.state.number(),
-        &outcome.context,
-        outcome.actions,
-        &outcome.reply,
-    ))
+    Some(form(&take_step(&context, &own, buffer_length, &event)))
 }
 
 /// `EVENT ETV EREF MODE OCTETS`, the numbers up to what the command names for them.
@@ -61,14 +55,34 @@ pub fn event_of(tokens: &[&[u8]], greatest_event: u32, greatest_other: u32) -> O
     })
 }
 
-/// `ANSWER STATE PARAMS TIMERS TV REF ACTIONS REPLY`
-fn form(answer: u8, state: u8, context: &Context, actions: u8, reply: &[u8]) -> String {
+/// `ANSWER STATE PARAMS TIMERS TV REF ACTIONS REPLY REASON`
+fn form(outcome: &Outcome) -> String {
     format!(
-        "{answer} {state} {} {} {} {} {actions} {}",
+        "{} {} {} {} {} {}",
+        outcome.answer,
+        outcome.context.state.number(),
+        beside_state(&outcome.context),
+        outcome.actions,
+        hexadecimal(&outcome.reply),
+        outcome.reason_number()
+    )
+}
+
+/// The same for a number that is no state, with the context as it was given.
+fn no_state(number: u8, context: &Context) -> String {
+    format!(
+        "{CONTEXT_NOT_FIT} {number} {} 0 - {NO_REASON}",
+        beside_state(context)
+    )
+}
+
+/// `PARAMS TIMERS TV REF`
+fn beside_state(context: &Context) -> String {
+    format!(
+        "{} {} {} {}",
         context.parameters.number(),
         context.timers.number(),
         context.transaction_value,
-        hexadecimal(&context.reference),
-        hexadecimal(reply)
+        hexadecimal(&context.reference)
     )
 }

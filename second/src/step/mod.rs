@@ -10,14 +10,17 @@ use crate::context::{Context, GREATEST_TRANSACTION_VALUE};
 use crate::event::{carries, Carries, Event, UNACKNOWLEDGED};
 use crate::message::{Kind, Message, LONGEST_MESSAGE, SHORTEST_BUFFER};
 use crate::own::Own;
+use crate::reason::{Reason, NO_REASON};
 use crate::state::State;
 use table::{Effect, Row, Trigger};
 
-/// What a step leaves: the answer, the context afterwards, the actions added up
-/// and the reply, empty where there is none.
+/// What a step leaves: the answer, why a message was ignored, the context
+/// afterwards, the actions added up and the reply, empty where there is none.
 #[derive(Clone, PartialEq, Eq, Debug)]
 pub struct Outcome {
     pub answer: u8,
+    /// With answer 1, and with no other.
+    pub reason: Option<Reason>,
     pub context: Context,
     pub actions: u8,
     pub reply: Vec<u8>,
@@ -28,10 +31,23 @@ impl Outcome {
     pub fn quiet(context: &Context, answer: u8) -> Outcome {
         Outcome {
             answer,
+            reason: None,
             context: context.clone(),
             actions: 0,
             reply: Vec::new(),
         }
+    }
+
+    /// Answer 1, which never comes without its reason.
+    pub fn ignored(context: &Context, reason: Reason) -> Outcome {
+        Outcome {
+            reason: Some(reason),
+            ..Outcome::quiet(context, IGNORED)
+        }
+    }
+
+    pub fn reason_number(&self) -> u8 {
+        self.reason.map_or(NO_REASON, Reason::number)
     }
 }
 
@@ -80,6 +96,7 @@ pub fn take(
     };
     Outcome {
         answer: TAKEN,
+        reason: None,
         context: after,
         actions: row.actions,
         reply,

@@ -1,5 +1,6 @@
 //! Received messages, rules 1 to 6 of document 01 in their order, with the
 //! sentences on GET STATUS and SET PARAMETER (the standard, clause 7 and 6.5.1).
+//! Wherever a message is ignored, the reason stands beside the rule.
 
 use super::{reply, table, take, Outcome};
 use crate::answer::*;
@@ -9,19 +10,20 @@ use crate::message::cause::*;
 use crate::message::read::read_fields;
 use crate::message::{Fields, Kind, Message, PROTOCOL_DISCRIMINATOR};
 use crate::own::Own;
+use crate::reason::Reason;
 use crate::state::Parameters;
 use table::Trigger;
 
 /// What becomes of a message before the step.
 enum Reading {
-    Ignored,
+    Ignored(Reason),
     Reported(u8),
     Step(Message),
 }
 
 pub fn step(context: &Context, own: &Own, event: &Event) -> Outcome {
     match examine(context, own, event) {
-        Reading::Ignored => Outcome::quiet(context, IGNORED),
+        Reading::Ignored(reason) => Outcome::ignored(context, reason),
         Reading::Reported(cause) => report(context, cause, &event.octets),
         // Rule 6.
         Reading::Step(message) => match message.kind {
@@ -38,8 +40,8 @@ pub fn step(context: &Context, own: &Own, event: &Event) -> Outcome {
 /// Rules 1 to 5.
 fn examine(context: &Context, own: &Own, event: &Event) -> Reading {
     let octets = &event.octets;
-    if !concerns_us(context, octets) {
-        return Reading::Ignored;
+    if let Some(reason) = no_concern_of_ours(context, octets) {
+        return Reading::Ignored(reason);
     }
     let kind = match Kind::from_type_octet(octets[1]) {
         None => return Reading::Reported(MESSAGE_TYPE_NON_EXISTENT),
@@ -53,7 +55,7 @@ fn examine(context: &Context, own: &Own, event: &Event) -> Reading {
         Some(fields) => fields,
     };
     if event.mode == UNACKNOWLEDGED && names_another(&fields, own) {
-        return Reading::Ignored;
+        return Reading::Ignored(Reason::OtherIdentity);
     }
     if kind == Kind::Connect && fields.originator_indication == 0 {
         return Reading::Reported(SEMANTICALLY_INCORRECT_MESSAGE);
@@ -66,17 +68,22 @@ fn examine(context: &Context, own: &Own, event: &Event) -> Reading {
     })
 }
 
-/// Rule 1: not U0, two octets, our discriminator, our value and the state's flag.
-fn concerns_us(context: &Context, octets: &[u8]) -> bool {
-    match context.state.received_flag() {
-        None => false,
-        Some(flag) => {
-            octets.len() >= 2
-                && octets[0] & 0x0F == PROTOCOL_DISCRIMINATOR
-                && octets[0] >> 4 & 7 == context.transaction_value
-                && octets[0] >> 7 == flag
-        }
+/// Rule 1: U0 (which alone has no flag), under two octets, another
+/// discriminator, another value than ours or another flag than the state's.
+fn no_concern_of_ours(context: &Context, octets: &[u8]) -> Option<Reason> {
+    let Some(flag) = context.state.received_flag() else {
+        return Some(Reason::NoCall);
+    };
+    if octets.len() < 2 {
+        return Some(Reason::TooShort);
     }
+    if octets[0] & 0x0F != PROTOCOL_DISCRIMINATOR {
+        return Some(Reason::OtherProtocol);
+    }
+    if octets[0] >> 4 & 7 != context.transaction_value || octets[0] >> 7 != flag {
+        return Some(Reason::TransactionMismatch);
+    }
+    None
 }
 
 /// Rule 2: a sentence (GET STATUS, SET PARAMETER in any state but U0) or a row
@@ -101,7 +108,7 @@ fn names_another(fields: &Fields, own: &Own) -> bool {
 /// "Reported": answer 2 and a STATUS if COMM was true, else answer 1.
 fn report(context: &Context, cause: u8, octets: &[u8]) -> Outcome {
     if !context.parameters.comm {
-        return Outcome::quiet(context, IGNORED);
+        return Outcome::ignored(context, Reason::CommFalse);
     }
     Outcome {
         reply: reply::error_status(cause, octets, context),
@@ -111,7 +118,7 @@ fn report(context: &Context, cause: u8, octets: &[u8]) -> Outcome {
 
 fn get_status(context: &Context) -> Outcome {
     if !context.parameters.comm {
-        return Outcome::quiet(context, IGNORED);
+        return Outcome::ignored(context, Reason::CommFalse);
     }
     Outcome {
         reply: reply::status(vec![octet(RESPONSE_TO_GET_STATUS)], context),

@@ -135,6 +135,18 @@ fn the_same_seed_gives_the_same_commands() {
 }
 
 #[test]
+fn every_reason_is_reached_often() {
+    let mut reasons = [0; 7];
+    for line in commands(8, 20_000, "step") {
+        let answered = answer(line.as_bytes());
+        if let Some(reason) = answered.split(' ').nth(8) {
+            reasons[reason.parse::<usize>().unwrap()] += 1;
+        }
+    }
+    assert!(reasons.iter().all(|&count| count > 100), "{reasons:?}");
+}
+
+#[test]
 fn every_answer_number_is_reached() {
     let reached = |word: &str| {
         let mut answers: Vec<String> = commands(7, 20_000, word)

@@ -9,6 +9,7 @@ mod limits;
 mod lines;
 mod messages;
 mod optional;
+mod reasons;
 mod received;
 mod recorder;
 mod settings;
@@ -23,9 +24,23 @@ pub fn expect(command: &str, answer: &str) {
     assert_eq!(asked, answer.replace('.', ""), "for {command}");
 }
 
-/// A step of an MS with key number 3, classmark 33 59 A2 and identity 29 F1.
+/// A step of an MS with key number 3, classmark 33 59 A2 and identity 29 F1
+/// that ignores nothing: the reason is 0.
 pub fn expect_step(context: &str, event: &str, answer: &str) {
-    expect(&format!("step {context} 3 3359a2 29f1 255 {event}"), answer);
+    step_with_reason(context, event, answer, 0);
+}
+
+/// A message that the same MS ignores, for this reason.
+pub fn expect_ignored(context: &str, mode: u8, octets: &str, reason: u8) {
+    let event = format!("18 0 00000000 {mode} {octets}");
+    step_with_reason(context, &event, &format!("1 {context} 0 -"), reason);
+}
+
+fn step_with_reason(context: &str, event: &str, answer: &str, reason: u8) {
+    expect(
+        &format!("step {context} 3 3359a2 29f1 255 {event}"),
+        &format!("{answer} {reason}"),
+    );
 }
 
 /// The cleared context with answer 0 and these actions, in the form of an answer.

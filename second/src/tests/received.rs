@@ -1,16 +1,12 @@
 //! The rules on received messages, in their order, and the STATUS messages
 //! that a step writes.
 
-use super::{cleared, expect_step};
+use super::{cleared, expect_ignored as ignored, expect_step};
 
 const U2: &str = "3 15 0 5 0a0b0c0d";
 
 fn receive(context: &str, mode: u8, octets: &str, answer: &str) {
     expect_step(context, &format!("18 0 00000000 {mode} {octets}"), answer);
-}
-
-fn ignored(context: &str, mode: u8, octets: &str) {
-    receive(context, mode, octets, &format!("1 {context} 0 -"));
 }
 
 /// Answer 2 with this STATUS.
@@ -20,23 +16,23 @@ fn reported(context: &str, octets: &str, status: &str) {
 
 #[test]
 fn rule_1() {
-    for octets in [
-        "-",
-        "d1",
-        "51.34.01.90",
-        "c1.34.01.90",
-        "f1.34.01.90",
-        "d2.34.01.90",
+    for (octets, reason) in [
+        ("-", 2),
+        ("d1", 2),
+        ("51.34.01.90", 4),
+        ("c1.34.01.90", 4),
+        ("f1.34.01.90", 4),
+        ("d2.34.01.90", 3),
     ] {
-        ignored(U2, 0, octets);
+        ignored(U2, 0, octets, reason);
     }
-    ignored("0 0 0 0 00000000", 0, "81.34.01.90");
-    ignored("0 0 0 0 00000000", 1, "01.34.01.90");
+    ignored("0 0 0 0 00000000", 0, "81.34.01.90", 1);
+    ignored("0 0 0 0 00000000", 1, "01.34.01.90", 1);
     // The flag follows the state, not ORIG: U2 with ORIG false still takes flag 1.
     receive("3 7 0 5 0a0b0c0d", 0, "d1.34.01.90", &cleared(17));
-    ignored("3 7 0 5 0a0b0c0d", 0, "51.34.01.90");
+    ignored("3 7 0 5 0a0b0c0d", 0, "51.34.01.90", 4);
     receive("5 0 2 5 0a0b0c0d", 0, "51.34.01.90", &cleared(17));
-    ignored("5 0 2 5 0a0b0c0d", 0, "d1.34.01.90");
+    ignored("5 0 2 5 0a0b0c0d", 0, "d1.34.01.90", 4);
 }
 
 #[test]
@@ -49,9 +45,9 @@ fn rule_2() {
         reported(U2, octets, &format!("51.38.03.e2.{octets}.a2.bf"));
     }
     // COMM false: ignored.
-    ignored("4 0 0 5 0a0b0c0d", 0, "51.00");
-    ignored("4 0 0 5 0a0b0c0d", 0, "51.33.01020304.01");
-    ignored("1 8 8 5 0a0b0c0d", 0, "d1.36.01.90");
+    ignored("4 0 0 5 0a0b0c0d", 0, "51.00", 6);
+    ignored("4 0 0 5 0a0b0c0d", 0, "51.33.01020304.01", 6);
+    ignored("1 8 8 5 0a0b0c0d", 0, "d1.36.01.90", 6);
     // U0.p with COMM true by SET PARAMETER: call state 6, COMM and ORIG.
     reported("1 12 8 5 0a0b0c0d", "d1.36", "51.38.03.e2.d136.a6.b3");
     // Bit 7 of the type is no part of the code.
@@ -65,7 +61,7 @@ fn rule_3() {
     reported(U2, "d1.34.00", "51.38.04.e0.d13400.a2.bf");
     reported(U2, "d1.34.01.90.05", "51.38.06.e0.d134019005.a2.bf");
     reported(U2, "d1.3a", "51.38.03.e0.d13a.a2.bf");
-    ignored("3 11 0 5 0a0b0c0d", 0, "d1.34");
+    ignored("3 11 0 5 0a0b0c0d", 0, "d1.34", 6);
 }
 
 #[test]
@@ -82,7 +78,7 @@ fn rule_4() {
     }
     for other in ["d1.39.17.02.29f2", "d1.39.17.01.29", "d1.39.17.03.29f100"] {
         receive(U2, 0, other, &status);
-        ignored(U2, 1, other);
+        ignored(U2, 1, other, 5);
     }
     // Rule 3 comes first, whoever it is for.
     receive(
@@ -103,7 +99,7 @@ fn rule_5() {
         "d1.33.01020304.00",
         "51.38.08.df.d1330102030400.a1.b3",
     );
-    ignored("1 8 8 5 0a0b0c0d", 0, "d1.33.01020304.fe");
+    ignored("1 8 8 5 0a0b0c0d", 0, "d1.33.01020304.fe", 6);
     // A faulty CONNECT is rule 3's.
     reported(
         "2 12 0 5 0a0b0c0d",
@@ -120,8 +116,8 @@ fn get_status_shows_the_context() {
         "81.39",
         "0 6 14 4 0 ffffffff 0 01.38.01.9e.a5.bb",
     );
-    ignored("7 2 1 5 0a0b0c0d", 0, "51.39");
-    ignored("3 11 0 5 0a0b0c0d", 0, "d1.39");
+    ignored("7 2 1 5 0a0b0c0d", 0, "51.39", 6);
+    ignored("3 11 0 5 0a0b0c0d", 0, "d1.39", 6);
 }
 
 #[test]
@@ -134,9 +130,9 @@ fn set_parameter() {
     receive("1 8 8 5 0a0b0c0d", 0, "d1.3a.0f", "0 1 15 8 5 0a0b0c0d 0 -");
     for state in ["4 0 0", "5 0 2", "7 2 1"] {
         let context = format!("{state} 5 0a0b0c0d");
-        ignored(&context, 0, "51.3a.01");
-        ignored(&context, 0, "51.3a.02");
-        ignored(&context, 0, "51.3a.0f");
+        ignored(&context, 0, "51.3a.01", 6);
+        ignored(&context, 0, "51.3a.02", 6);
+        ignored(&context, 0, "51.3a.0f", 6);
         let (number, timers) = (&state[..1], &state[4..]);
         let set = format!("0 {number} 3 {timers} 5 0a0b0c0d 0 -");
         receive(&context, 0, "51.3a.0c", &set);

@@ -128,24 +128,24 @@ fn order_of_the_tests() {
     // 7 before 5 before 6 before 4.
     expect(
         &format!("step 0 8 0 0 00000000 8 000000 - 254 18 0 00000000 2 {long}"),
-        "7 0 8 0 0 00000000 0 -",
+        "7 0 8 0 0 00000000 0 - 0",
     );
     expect(
         &format!("step 0 0 0 0 00000000 8 000000 - 254 18 0 00000000 2 {long}"),
-        "5 0 0 0 0 00000000 0 -",
+        "5 0 0 0 0 00000000 0 - 0",
     );
     expect(
         &format!("step 0 0 0 0 00000000 8 000000 - 255 18 0 00000000 2 {long}"),
-        "6 0 0 0 0 00000000 0 -",
+        "6 0 0 0 0 00000000 0 - 0",
     );
     // Only event 18 carries a message.
     expect(
         &format!("step 0 0 0 0 00000000 0 000000 29 255 19 0 00000000 0 {long}"),
-        "4 0 0 0 0 00000000 0 -",
+        "4 0 0 0 0 00000000 0 - 0",
     );
     expect(
         &format!("step 0 0 0 0 00000000 0 000000 29 255 3 0 00000000 0 {long}"),
-        "3 0 0 0 0 00000000 0 -",
+        "3 0 0 0 0 00000000 0 - 0",
     );
 }
 
@@ -154,7 +154,7 @@ fn arguments_outside_their_range() {
     let refused = |own: &str, event: &str| {
         expect(
             &format!("step {U2} {own} 255 {event}"),
-            &format!("4 {U2} 0 -"),
+            &format!("4 {U2} 0 - 0"),
         );
     };
     refused("8 000000 29", "3 0 00000000 0 -");
@@ -171,7 +171,7 @@ fn arguments_outside_their_range() {
     // What the event does not carry has no effect.
     expect(
         &format!("step {U2} 0 000000 29 255 3 255 ffffffff 255 00"),
-        &format!("3 {U2} 0 -"),
+        &format!("3 {U2} 0 - 0"),
     );
 }
 

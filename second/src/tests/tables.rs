@@ -72,11 +72,13 @@ fn every_step_keeps_the_context_fit() {
             let outcome = step(context, &OWN, 255, &event);
             assert!(outcome.context.is_fit() && [0, 3].contains(&outcome.answer));
             assert!(outcome.actions <= 63);
+            assert_eq!(outcome.reason, None);
         }
         for octets in &received {
             let outcome = step(context, &OWN, 255, &Event::received(1, octets.clone()));
             assert!(outcome.context.is_fit() && outcome.answer <= 2);
             assert!(outcome.answer == 0 || outcome.context == *context);
+            assert_eq!(outcome.reason.is_some(), outcome.answer == 1);
             assert_eq!(
                 outcome.answer == 2,
                 outcome.answer != 0 && !outcome.reply.is_empty()

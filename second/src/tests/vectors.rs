@@ -3,6 +3,7 @@
 use crate::probe::{answer, WORDS};
 use crate::step::table::{Trigger, STEP_TABLE};
 use crate::vectors::lines;
+use std::collections::BTreeSet;
 
 /// The answer numbers that a word's set comes to, in order.
 fn reached(word: &str) -> Vec<String> {
@@ -78,13 +79,43 @@ fn every_pair_without_a_row_is_there() {
     }
 }
 
+/// State, mode and reason of each message that is ignored.
+fn ignored() -> BTreeSet<(u8, u8, u8)> {
+    let number = |token: &str| token.parse().expect("a number");
+    lines("step")
+        .iter()
+        .map(|line| (line, answer(line.as_bytes())))
+        .filter(|(_, answered)| answered.starts_with("1 "))
+        .map(|(line, answered)| {
+            let given: Vec<&str> = line.split(' ').collect();
+            let reason = answered.rsplit(' ').next().expect("nine tokens");
+            (number(given[1]), number(given[13]), number(reason))
+        })
+        .collect()
+}
+
+#[test]
+fn every_reason_is_there_where_it_can_be() {
+    let mut possible = BTreeSet::new();
+    for mode in [0, 1] {
+        // Without a call nothing else is asked.
+        possible.insert((0, mode, 1));
+        for state in 1..=7 {
+            possible.extend([2, 3, 4, 6].map(|reason| (state, mode, reason)));
+        }
+    }
+    // Only an unacknowledged message can be for another.
+    possible.extend((1..=7).map(|state| (state, 1, 5)));
+    assert_eq!(ignored(), possible);
+}
+
 #[test]
 fn sizes() {
     let mut bytes = 0;
     for word in WORDS {
         let lines = lines(word);
         assert!(
-            (300..=3_500).contains(&lines.len()),
+            (300..=4_500).contains(&lines.len()),
             "{word} {}",
             lines.len()
         );

@@ -12,6 +12,7 @@ pub mod record;
 pub mod settings;
 pub mod step;
 pub mod step_limits;
+pub mod step_reasons;
 pub mod step_received;
 pub mod write;
 
@@ -39,6 +40,7 @@ pub fn lines(word: &str) -> Vec<String> {
             step::all(&mut lines);
             step_limits::all(&mut lines);
             step_received::all(&mut lines);
+            step_reasons::all(&mut lines);
         }
         "settings" => settings::all(&mut lines),
         "judge" => {

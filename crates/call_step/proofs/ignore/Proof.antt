@@ -1,5 +1,5 @@
--- `ignore` meets its contract: it is the definition's record.
-use mathlib.Core.Path.{refl}
+-- `ignore` meets its contract: it is the definition's record, with the reason's number.
+use borrow.Author.Needs.{needs}
 use Rattle.call.specs.Step.{ignored}
 use Rattle.call_step.proofs.ignore.Statement.{statement}
 use Rattle.call_step.proofs.ignore.Tie as tie
@@ -9,4 +9,5 @@ unfolding ignored
 ignore-spec =
     tie.close
     (tie.spec
-    (λ c. refl))
+    (λ c κs. search needs)
+    (λ c. rw (c .reason-number .ensures)))

@@ -1,0 +1,87 @@
+// The messages that a radio ignored, and why: a log is walked through as the judge does, and what the step says of each entry up to there is listed.
+mod listing;
+mod reason;
+
+ghost use Prim.Native.Nat.{_<_};
+use judge_walk::End;
+use judge_walk::walk;
+pub use listing::list;
+use reason::tell_reason;
+use replay::own_of;
+use reply::Own;
+use saying::tell;
+use saying::tell_count;
+use saying::tell_place;
+use settings_values::Settings;
+use text::words::part;
+
+// Lists the ignored messages of a log, and answers the verdict: 0 where the whole log is what the radio does.
+pub fn tell_ignored(settings: Settings, log: &[u8]) -> u8 {
+    if version::LONGEST < log.len() {
+        tell(
+            b"the log is refused: it has over 65,536 bytes (answer 10), and nothing of it is listed; see heidezirkel judge\n",
+        );
+        return 1;
+    }
+    let identity = settings.identity;
+    let count = settings.count;
+    tell_walked(own_of(settings), part(&identity, 0, count), log)
+}
+
+fn tell_walked(own: Own, identity: &[u8], log: &[u8]) -> u8 {
+    let walked = walk(own, identity, log);
+    let track = walked.track;
+    let end = walked.end;
+    let entries = track.entries;
+    let counts = list(own, identity, log, entries);
+    tell_counts(&counts, entries);
+    tell_end(end, std::num::wrapping_add_usize(entries, 1))
+}
+
+// How many messages were ignored for each reason. The first count is of the other entries.
+fn tell_counts(counts: &[usize; 7], entries: usize) {
+    let ignored = std::num::wrapping_sub_usize(entries, counts[0]);
+    if ignored == 0 {
+        tell(b"no message was ignored in ");
+        tell_count(entries, b" entry\n", b" entries\n");
+        return;
+    }
+    tell_count(ignored, b" message ignored in ", b" messages ignored in ");
+    tell_count(entries, b" entry\n", b" entries\n");
+    tell_each(counts);
+}
+
+fn tell_each(counts: &[usize; 7]) {
+    let mut reason = 1;
+    while reason < 7 {
+        tell_counted(counts, reason);
+        reason += 1;
+    }
+}
+
+fn tell_counted(counts: &[usize; 7], reason: u8)
+    requires { ⌜ reason < 7 ⌝ }
+{
+    tell_reason(reason);
+    tell(b": ");
+    tell_place(counts[reason as usize]);
+    tell(b"\n");
+}
+
+// Where the log is refused: at the entry of this number, which is the one behind those that are explained, or at its version.
+fn tell_end(end: End, number: usize) -> u8 {
+    match end {
+        End::Finished => 0,
+        End::NoVersion => tell_refused(0),
+        End::Torn(_) => tell_refused(number),
+        End::Stuck(_) => tell_refused(number),
+        End::Astray => tell_refused(number),
+    }
+}
+
+fn tell_refused(number: usize) -> u8 {
+    tell(b"the log is refused at entry ");
+    tell_place(number);
+    tell(b", and nothing is listed from there on; see heidezirkel judge\n");
+    1
+}

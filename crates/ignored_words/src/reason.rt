@@ -1,0 +1,84 @@
+// Why a message is ignored, in words: the number and the name of the reason, and what the message has beside what the call has.
+use context::Context;
+use context::expected_flag;
+use fields::octet_at;
+use message::Identity;
+use message::Message;
+use message::Reading;
+use saying::tell;
+use saying::tell_hex;
+use saying::tell_number;
+use text::words::part;
+
+// A reason by its number, 1 to 6.
+pub(crate) fn tell_reason(reason: u8) {
+    tell(b"reason ");
+    tell_number(reason);
+    match reason {
+        1 => tell(b", no call"),
+        2 => tell(b", too short"),
+        3 => tell(b", other protocol"),
+        4 => tell(b", transaction mismatch"),
+        5 => tell(b", other identity"),
+        _ => tell(b", COMM false"),
+    }
+}
+
+// What the reason is in this message, from the context before it, for a radio of this identity.
+pub(crate) fn tell_particulars(reason: u8, context: Context, identity: &[u8], octets: &[u8]) {
+    let first = octet_at(octets, 0);
+    let flag = expected_flag(context);
+    match reason {
+        1 => {}
+        2 => tell(b": a message has at least 2 octets"),
+        3 => tell_protocol(first),
+        4 => tell_transaction(first, context.value, flag),
+        5 => tell_identities(octets, identity),
+        _ => tell(b": it is not answered"),
+    }
+}
+
+fn tell_protocol(first: u8) {
+    tell(b": discriminator ");
+    tell_number(first % 16);
+    tell(b", a broadcast call's is 1");
+}
+
+// The upper half of the first octet is a flag and a value.
+fn tell_transaction(first: u8, value: u8, flag: bool) {
+    let found = first / 16 % 8;
+    tell(b": transaction ");
+    tell_number(found);
+    if found != value {
+        tell(b", this call has ");
+        tell_number(value);
+        return;
+    }
+    if flag {
+        tell(b" with flag 0, this call expects flag 1");
+        return;
+    }
+    tell(b" with flag 1, this call expects flag 0");
+}
+
+// Only GET STATUS names an identity.
+fn tell_identities(octets: &[u8], identity: &[u8]) {
+    let Reading::Is {
+        flag: _,
+        value: _,
+        message,
+    } = message::read(octets)
+    else {
+        return;
+    };
+    let Message::GetStatus { identity: named } = message else {
+        return;
+    };
+    let Identity::Present(run) = named else {
+        return;
+    };
+    tell(b": it names ");
+    tell_hex(part(octets, run.start, run.count));
+    tell(b", this radio is ");
+    tell_hex(identity);
+}
