@@ -25,19 +25,19 @@ use Rattle.message.specs.declared.Message.the-variants.{
 use Rattle.context.specs.declared.Context.{Context}
 use Rattle.context.specs.States.{same}
 use Rattle.context.specs.Context.{entering, cleared}
-use Rattle.fitness.specs.Fitness.{Fitness, consistentBy, timersFitBy, fitBy}
+use Rattle.fitness.specs.Fitness.{Fitness, consistentBy, timersFitBy, rememberedFitBy, fitBy}
 use Rattle.version.specs.declared.Table.{Table}
 use Rattle.fitness.specs.Tables.{fitnessOf, consistent, fitOf}
 use Rattle.context.proofs.States.{same-state}
-use Rattle.context.proofs.Whole.{and-right, if-so}
-use Rattle.fitness.proofs.Fit.{fit-consistent, fit-value, fit-timers, fit-made}
+use Rattle.context.proofs.Whole.{and-left, and-right, and-both, if-so}
+use Rattle.fitness.proofs.Fit.{fit-consistent, fit-value, fit-timers, fit-remembered, fit-made}
 use Rattle.fitness.proofs.Sound.{entering-consistent, cleared-sound}
 use Rattle.transitions.specs.declared.Stores.{Stores}
 use Rattle.transitions.specs.declared.Stores.the-variants.{Nothing, ValueAndReference, ItsReference}
 use Rattle.transitions.specs.declared.Taken.{Taken}
 use Rattle.transitions.specs.declared.Decision.{Decision}
 use Rattle.transitions.specs.declared.Decision.the-variants.{Take, NoStep, Ignore, Report, TellStatus, SetParameters}
-use Rattle.transitions.specs.Table.{Row, stepTable, timersAfter, decidedBy}
+use Rattle.transitions.specs.Table.{Row, stepTable, timersAfter, rememberedAfter, decidedBy}
 use Rattle.transitions.proofs.Sound.{Sound, rows-sound}
 use Rattle.transitions.proofs.Decided.{Keeps, decided-keeps}
 use Rattle.call.specs.declared.Due.{Due}
@@ -109,9 +109,12 @@ module _ (fitness : Fitness) (most : ℕ) (table : List Row) (sound : Sound fitn
   afterwards-fit d e keeps fits =
       at-cond StaysFit (same (d .next) U0) _ _ (λ u. cleared-sound fitness (sound .fitness-sound))
       (λ u.
-      let k : (not (timersFitBy fitness (x .state) (x .timers)) || timersFitBy fitness (d .next) (timersAfter d (x .timers))) ≡ true = rw u at keeps in
+      let k : (not (timersFitBy fitness (x .state) (x .timers) && rememberedFitBy fitness (x .state) (x .remembered))
+      || (timersFitBy fitness (d .next) (timersAfter d (x .timers)) && rememberedFitBy fitness (d .next) (rememberedAfter (d .memory) (x .state) (x .remembered)))) ≡ true
+      = rw u at keeps in
+      let both = if-so _ _ k (and-both _ _ (fit-timers fitness x fit) (fit-remembered fitness x fit)) in
       fit-made fitness _ (parameters-fit (d .next)) (value-fits (d .stores) (e .value) (x .value) fits (fit-value fitness x fit))
-      (not-u0 (same (d .next) U0) _ u) (if-so _ _ k (fit-timers fitness x fit)))
+      (not-u0 (same (d .next) U0) _ u) (and-left (timersFitBy fitness (d .next) (timersAfter d (x .timers))) _ both) (and-right (timersFitBy fitness (d .next) (timersAfter d (x .timers))) _ both))
 
   reported-fit : (cause : ℕ) → StepFits (reportedWith cause x)
   unfolding reportedWith ignored
@@ -126,7 +129,7 @@ module _ (fitness : Fitness) (most : ℕ) (table : List Row) (sound : Sound fitn
   carried-fit TellStatus e keeps fits = at-cond StepFits (x .parameters .comm) _ _ (λ q. fit) (λ q. fit)
   carried-fit SetParameters e keeps fits =
       at-cond StepFits (consistentBy fitness (x .state) (parametersOf (e .attributes))) _ _
-      (λ q. fit-made fitness _ q (fit-value fitness x fit) (not-u0 (same (x .state) U0) _ keeps) (fit-timers fitness x fit)) (λ q. reported-fit 98)
+      (λ q. fit-made fitness _ q (fit-value fitness x fit) (not-u0 (same (x .state) U0) _ keeps) (fit-timers fitness x fit) (fit-remembered fitness x fit)) (λ q. reported-fit 98)
 
   -- A step by sound rows from a fit context ends in a fit one, where the value that the event carries is at most 6.
   step-by : (event : Event) → leb (seenOf event .value) 6 ≡ true → StepFits (stepBy fitness table x event)

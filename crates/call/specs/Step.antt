@@ -20,7 +20,7 @@ use Rattle.transitions.specs.declared.Stores.the-variants.{Nothing, ValueAndRef
 use Rattle.transitions.specs.declared.Taken.{Taken}
 use Rattle.transitions.specs.declared.Decision.{Decision}
 use Rattle.transitions.specs.declared.Decision.the-variants.{Take, NoStep, Ignore, Report, TellStatus, SetParameters}
-use Rattle.transitions.specs.Table.{Row, stepTable, timersAfter, decidedBy}
+use Rattle.transitions.specs.Table.{Row, stepTable, timersAfter, rememberedAfter, decidedBy}
 use Rattle.call.specs.declared.Event.{Event}
 use Rattle.call.specs.declared.Reason.{Reason}
 use Rattle.call.specs.declared.Reason.the-variants.{NoCall, CommFalse}
@@ -54,6 +54,7 @@ afterwards x d e =
       timers = timersAfter d (x .timers);
       value = valueAfter (d .stores) (e .value) (x .value);
       reference = referenceAfter (d .stores) (e .reference) (x .reference);
+      remembered = rememberedAfter (d .memory) (x .state) (x .remembered);
     })
 
 -- Answer 0: taken.
@@ -78,7 +79,8 @@ statusTold x = cond (x .parameters .comm) (took x 0 (Send.Status 30)) (ignored C
 
 -- The context with other parameters.
 abbrev pub withParameters : Parameters → Context → Context
-withParameters p x = record { state = x .state; parameters = p; timers = x .timers; value = x .value; reference = x .reference }
+withParameters p x =
+    record { state = x .state; parameters = p; timers = x .timers; value = x .value; reference = x .reference; remembered = x .remembered }
 
 -- SET PARAMETER: consistent values are set, answer 0, no reply. Inconsistent ones set nothing and are reported with the cause 6.5.1.2 names,
 -- "message incompatible with protocol state": 98.

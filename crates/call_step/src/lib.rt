@@ -1,6 +1,7 @@
 // The step of a call, by value: what the step table's row for an event brings about, and what else befalls what happens.
 ghost use mathlib.Core.Path.{_≡_};
 ghost use Rattle.fitness.specs.Tables.{fitnessOf};
+ghost use Rattle.transitions.specs.Table.{rememberedAfter};
 ghost use Rattle.call.specs.Due.{settled};
 ghost use Rattle.call.specs.Step.{parametersAfter, valueAfter, referenceAfter, afterwards, noStep, ignored, reportedWith, statusTold, parametersSet, carriedOut, stepValue};
 use call::Due;
@@ -11,8 +12,10 @@ use call::Settled;
 use codes::attributes::Parameters;
 use codes::state::State;
 use context::Context;
+use context::Remembered;
 use message::Reference;
 use transitions::Decision;
+use transitions::Memory;
 use transitions::Send;
 use transitions::Stores;
 use transitions::Taken;
@@ -53,6 +56,17 @@ fn reference_after(stores: Stores, carried: Reference, kept: Reference) -> Refer
     }
 }
 
+// What is remembered after a row.
+fn remembered_after(memory: Memory, here: State, kept: Remembered) -> Remembered
+    ensures { λ r. ⌜ r ≡ rememberedAfter memory here kept ⌝ }
+{
+    match memory {
+        Memory::Keep => kept,
+        Memory::Remember => context::remembering(here),
+        Memory::Forget => Remembered::Nothing,
+    }
+}
+
 // The context after a row of the table: entering U0 clears.
 fn afterwards(context: Context, taken: Taken, seen: Seen) -> Context
     ensures { λ r. ⌜ r ≡ afterwards context taken seen ⌝ }
@@ -73,12 +87,17 @@ fn afterwards(context: Context, taken: Taken, seen: Seen) -> Context
     let timers = timer::with_timer(sets, true, stopped);
     let value = value_after(stores, seen.value, context.value);
     let reference = reference_after(stores, carried, kept);
+    let memory = taken.memory;
+    let here = context.state;
+    let minded = context.remembered;
+    let remembered = remembered_after(memory, here, minded);
     Context {
         state: next,
         parameters,
         timers,
         value,
         reference,
+        remembered,
     }
 }
 
@@ -150,6 +169,7 @@ fn set_parameters(table: Table, context: Context, attributes: u8) -> Settled
     let state = context.state;
     let timers = context.timers;
     let reference = context.reference;
+    let remembered = context.remembered;
     let parameters = codes::attributes::parameters_of(attributes);
     if fitness::is_consistent(table, state, parameters) {
         let set = Context {
@@ -158,6 +178,7 @@ fn set_parameters(table: Table, context: Context, attributes: u8) -> Settled
             timers,
             value: context.value,
             reference,
+            remembered,
         };
         return Settled {
             answer: 0,

@@ -2,12 +2,16 @@
 ghost use mathlib.Core.Path.{_≡_};
 ghost use mathlib.Core.Bool.{cond};
 ghost use Rattle.codes.specs.declared.state.State.the-variants.{U0, U0p, U1, U2, U3, U4, U5, U6};
-ghost use Rattle.transitions.specs.declared.Decision.the-variants.{NoStep};
-ghost use Rattle.transitions.specs.Table.{stepTable, happenedIn, decidedOf};
+ghost use Rattle.transitions.specs.declared.Decision.the-variants.{Take, NoStep};
+ghost use Rattle.transitions.specs.declared.Send.the-variants.{TerminationRequest};
+ghost use Rattle.transitions.specs.declared.Stores.the-variants as Stores;
+ghost use Rattle.timer.specs.declared.Timer.the-variants.{MmEst, Term};
+ghost use Rattle.transitions.specs.Table.{asking, stepTable, happenedIn, decidedOf};
 use codes::state::State;
 use context::Context;
 use timer::Timer;
 use transitions::Decision;
+use transitions::Memory;
 use transitions::Send;
 use transitions::Stores;
 use transitions::Taken;
@@ -21,6 +25,7 @@ const SET_UP: Decision = Decision::Take(Taken {
     stops: Timer::NoTimer,
     sets: Timer::MmEst,
     stores: Stores::ValueAndReference,
+    memory: Memory::Keep,
 });
 
 // 2, immediate set-up request.
@@ -31,6 +36,7 @@ const IMMEDIATE_SET_UP: Decision = Decision::Take(Taken {
     stops: Timer::NoTimer,
     sets: Timer::MmEst,
     stores: Stores::ValueAndReference,
+    memory: Memory::Keep,
 });
 
 // 6, MM connection established.
@@ -41,6 +47,7 @@ const ESTABLISHED: Decision = Decision::Take(Taken {
     stops: Timer::MmEst,
     sets: Timer::NoTimer,
     stores: Stores::Nothing,
+    memory: Memory::Keep,
 });
 
 // 10, broadcast notified.
@@ -51,6 +58,7 @@ const NOTIFIED: Decision = Decision::Take(Taken {
     stops: Timer::NoTimer,
     sets: Timer::NoTimer,
     stores: Stores::ValueAndReference,
+    memory: Memory::Keep,
 });
 
 // 3, join.
@@ -61,6 +69,7 @@ const JOIN: Decision = Decision::Take(Taken {
     stops: Timer::NoTimer,
     sets: Timer::ConnReq,
     stores: Stores::Nothing,
+    memory: Memory::Keep,
 });
 
 // 11, group receive mode entered.
@@ -71,6 +80,7 @@ const RECEIVE_MODE_ENTERED: Decision = Decision::Take(Taken {
     stops: Timer::ConnReq,
     sets: Timer::NoTimer,
     stores: Stores::Nothing,
+    memory: Memory::Keep,
 });
 
 // 12, no channel: T_no channel is set unless running.
@@ -81,6 +91,7 @@ const NO_CHANNEL: Decision = Decision::Take(Taken {
     stops: Timer::NoTimer,
     sets: Timer::NoChannel,
     stores: Stores::Nothing,
+    memory: Memory::Keep,
 });
 
 // The same while it runs.
@@ -91,6 +102,7 @@ const STILL_NO_CHANNEL: Decision = Decision::Take(Taken {
     stops: Timer::NoTimer,
     sets: Timer::NoTimer,
     stores: Stores::Nothing,
+    memory: Memory::Keep,
 });
 
 // 13, channel available.
@@ -101,16 +113,7 @@ const CHANNEL_AVAILABLE: Decision = Decision::Take(Taken {
     stops: Timer::NoChannel,
     sets: Timer::NoTimer,
     stores: Stores::Nothing,
-});
-
-// 4, terminate.
-const TERMINATE: Decision = Decision::Take(Taken {
-    next: State::U5,
-    actions: 0,
-    sends: Send::TerminationRequest,
-    stops: Timer::MmEst,
-    sets: Timer::Term,
-    stores: Stores::Nothing,
+    memory: Memory::Keep,
 });
 
 // The rows that lead to U0 differ by their actions: none, ..
@@ -121,6 +124,7 @@ const ENDS: Decision = Decision::Take(Taken {
     stops: Timer::NoTimer,
     sets: Timer::NoTimer,
     stores: Stores::Nothing,
+    memory: Memory::Keep,
 });
 
 // .. 8 abort, ..
@@ -131,6 +135,7 @@ const ENDS_ABORTING: Decision = Decision::Take(Taken {
     stops: Timer::NoTimer,
     sets: Timer::NoTimer,
     stores: Stores::Nothing,
+    memory: Memory::Keep,
 });
 
 // .. 16 release, ..
@@ -141,6 +146,7 @@ const ENDS_RELEASING: Decision = Decision::Take(Taken {
     stops: Timer::NoTimer,
     sets: Timer::NoTimer,
     stores: Stores::Nothing,
+    memory: Memory::Keep,
 });
 
 // .. 1 inform higher layers and 8 abort.
@@ -151,7 +157,37 @@ const ENDS_INFORMING_ABORTING: Decision = Decision::Take(Taken {
     stops: Timer::NoTimer,
     sets: Timer::NoTimer,
     stores: Stores::Nothing,
+    memory: Memory::Keep,
 });
+
+// What a terminate request remembers: from the second table on the state that it is asked from.
+fn asking(table: Table) -> Memory
+    ensures { λ r. ⌜ r ≡ asking table ⌝ }
+{
+    match table {
+        Table::First => Memory::Keep,
+        Table::Second => Memory::Remember,
+    }
+}
+
+// 4, terminate: where ORIG is true.
+fn terminated(table: Table, orig: bool) -> Decision
+    ensures { λ r. ⌜ r ≡ cond orig (Take (record { next = U5; actions = 0; sends = TerminationRequest; stops = MmEst; sets = Term; stores = Stores.Nothing; memory = asking table })) NoStep ⌝ }
+{
+    let memory = asking(table);
+    if orig {
+        return Decision::Take(Taken {
+            next: State::U5,
+            actions: 0,
+            sends: Send::TerminationRequest,
+            stops: Timer::MmEst,
+            sets: Timer::Term,
+            stores: Stores::Nothing,
+            memory,
+        });
+    }
+    Decision::NoStep
+}
 
 // A row that holds only where something is true.
 fn where_true(holds: bool, taken: Decision) -> Decision
@@ -208,7 +244,7 @@ fn in_u1(table: Table, context: Context, number: u8) -> Decision
         7 => where_true(timers.mmest, ENDS),
         14 => where_true(timers.mmest, ENDS_ABORTING),
         8 => ENDS_ABORTING,
-        4 => where_true(parameters.orig, TERMINATE),
+        4 => terminated(table, parameters.orig),
         5 => ENDS_RELEASING,
         9 => ENDS_INFORMING_ABORTING,
         0..=3 | 6..=6 | 10..=13 | 15..=255 => Decision::NoStep,
@@ -220,7 +256,7 @@ fn in_u2(table: Table, context: Context, number: u8) -> Decision
 {
     let parameters = context.parameters;
     match number {
-        4 => where_true(parameters.orig, TERMINATE),
+        4 => terminated(table, parameters.orig),
         5 => ENDS_RELEASING,
         9 => ENDS_INFORMING_ABORTING,
         8 => ENDS_INFORMING_ABORTING,

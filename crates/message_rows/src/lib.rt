@@ -1,13 +1,21 @@
 // The step table's rows of messages, state by state: what it says of a message of a type.
 ghost use mathlib.Core.Path.{_≡_};
 ghost use Rattle.codes.specs.declared.state.State.the-variants.{U0p, U1, U2, U5};
-ghost use Rattle.codes.specs.MessageTypes.{CONNECT};
+ghost use Rattle.codes.specs.MessageTypes.{CONNECT, TERMINATION-REJECT};
+ghost use Rattle.timer.specs.declared.Timer.the-variants.{NoTimer, Term};
+ghost use Rattle.context.specs.Remembered.{returning};
+ghost use Rattle.transitions.specs.declared.Send.the-variants.{Nothing};
+ghost use Rattle.transitions.specs.declared.Stores.the-variants as Stores;
+ghost use Rattle.transitions.specs.declared.Memory.the-variants.{Forget};
+ghost use Rattle.transitions.specs.declared.Decision.the-variants.{Take};
 ghost use Rattle.transitions.specs.Table.{stepTable, heardIn, decidedOf};
 use codes::message_type;
 use codes::state::State;
 use context::Context;
+use context::Remembered;
 use timer::Timer;
 use transitions::Decision;
+use transitions::Memory;
 use transitions::Send;
 use transitions::Stores;
 use transitions::Taken;
@@ -21,6 +29,7 @@ const CONNECTED: Decision = Decision::Take(Taken {
     stops: Timer::MmEst,
     sets: Timer::NoTimer,
     stores: Stores::ItsReference,
+    memory: Memory::Keep,
 });
 
 // The same in U1 with T_MM-est.
@@ -31,9 +40,10 @@ const CONNECTED_IMPLICITLY: Decision = Decision::Take(Taken {
     stops: Timer::MmEst,
     sets: Timer::NoTimer,
     stores: Stores::ItsReference,
+    memory: Memory::Keep,
 });
 
-// TERMINATION REJECT in U5.
+// TERMINATION REJECT in U5, by the first table: the radio stays there.
 const REJECTED: Decision = Decision::Take(Taken {
     next: State::U5,
     actions: 1,
@@ -41,6 +51,7 @@ const REJECTED: Decision = Decision::Take(Taken {
     stops: Timer::Term,
     sets: Timer::NoTimer,
     stores: Stores::Nothing,
+    memory: Memory::Keep,
 });
 
 // TERMINATION, in all states but U0.
@@ -51,6 +62,7 @@ const TERMINATED: Decision = Decision::Take(Taken {
     stops: Timer::NoTimer,
     sets: Timer::NoTimer,
     stores: Stores::Nothing,
+    memory: Memory::Keep,
 });
 
 // A type that is not compatible with the state.
@@ -58,6 +70,33 @@ const INCOMPATIBLE: Decision = Decision::Report(98);
 
 // A type that does not exist.
 const UNKNOWN: Decision = Decision::Report(97);
+
+// The same from the second table on: back to where the termination was asked from.
+fn returned(remembered: Remembered) -> Decision
+    ensures { λ r. ⌜ r ≡ Take (record { next = returning remembered U5; actions = 1; sends = Nothing; stops = Term; sets = NoTimer; stores = Stores.Nothing; memory = Forget }) ⌝ }
+{
+    let next = context::returning(remembered, State::U5);
+    Decision::Take(Taken {
+        next,
+        actions: 1,
+        sends: Send::Nothing,
+        stops: Timer::Term,
+        sets: Timer::NoTimer,
+        stores: Stores::Nothing,
+        memory: Memory::Forget,
+    })
+}
+
+// TERMINATION REJECT in U5.
+fn rejected(table: Table, context: Context) -> Decision
+    ensures { λ r. ⌜ r ≡ heardIn (stepTable table) U5 context TERMINATION-REJECT ⌝ }
+{
+    let remembered = context.remembered;
+    match table {
+        Table::First => REJECTED,
+        Table::Second => returned(remembered),
+    }
+}
 
 // CONNECT in U1.
 fn connected_in_u1(table: Table, context: Context) -> Decision
@@ -116,7 +155,7 @@ fn heard_in_u5(table: Table, context: Context, code: u8) -> Decision
         message_type::CONNECT => INCOMPATIBLE,
         message_type::TERMINATION => TERMINATED,
         message_type::TERMINATION_REQUEST => INCOMPATIBLE,
-        message_type::TERMINATION_REJECT => REJECTED,
+        message_type::TERMINATION_REJECT => rejected(table, context),
         message_type::STATUS => INCOMPATIBLE,
         message_type::GET_STATUS => Decision::TellStatus,
         message_type::SET_PARAMETER => Decision::SetParameters,

@@ -12,7 +12,7 @@ use Rattle.context.specs.declared.Context.{Context}
 use Rattle.reply.specs.declared.Own.{Own}
 use Rattle.step_arguments.specs.Arguments.{settingsOut}
 use Rattle.version.specs.declared.Table.{Table}
-use Rattle.version.specs.declared.Table.the-variants.{First}
+use Rattle.version.specs.declared.Table.the-variants.{First, Second}
 use Rattle.version.specs.Version.{versionOf, tableOf, longest}
 use Rattle.version.proofs.Back.{table-number}
 use Rattle.version.proofs.Tables.{number-small}
@@ -230,7 +230,8 @@ module _ (table : Table) (own : Own) (identity : List ℕ) (settings : settingsO
         whole-accepted (take total after) (g .bytes) (rw u (g .short (b .short))) (g .in-range)
 
 -- A log that the recorder began, with no entry: it is accepted with 0 entries, and every joining timer is left.
-pub begun-alone : (own : Own) (identity : List ℕ) → settingsOut (own .key) (length identity) ≡ false → (before after : List ℕ) (used : ℕ)
-    → LogBegins First before after (Used used) → judgeOf own identity (take used after) ≡ Accepted 0 (joining .low) (joining .high)
+pub begun-alone : (table : Table) (own : Own) (identity : List ℕ) → settingsOut (own .key) (length identity) ≡ false → (before after : List ℕ) (used : ℕ)
+    → LogBegins table before after (Used used) → judgeOf own identity (take used after) ≡ Accepted 0 (joining .low) (joining .high)
 unfolding whole layout versionOf grouped groups judgeOf versionJudged tableOf numberAt groupsAt joined entries entriesIn judgeOne judge judgeFrom
-begun-alone own identity settings before after used begun = rw (begun-log First before after used begun .used, settings) refl
+begun-alone First own identity settings before after used begun = rw (begun-log First before after used begun .used, settings) refl
+begun-alone Second own identity settings before after used begun = rw (begun-log Second before after used begun .used, settings) refl

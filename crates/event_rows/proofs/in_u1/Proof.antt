@@ -18,7 +18,7 @@ in-u1-spec =
     (λ c. rw (c .before .match .keys1) (c .where-true .ensures))
     (λ c. rw (c .before .match .keys2) (c .where-true2 .ensures))
     (λ c. rw (c .match .keys3))
-    (λ c. rw (c .before .match .keys4) (c .where-true3 .ensures))
+    (λ c. rw (c .before .match .keys4) (c .terminated .ensures))
     (λ c. rw (c .match .keys5))
     (λ c. rw (c .match .keys6))
     (λ c. rw (c .match .keys7))

@@ -13,7 +13,7 @@ in-u2-spec =
     tie.close
     (tie.spec
     (λ c κs. search needs)
-    (λ c. rw (c .before .match .keys1) (c .where-true .ensures))
+    (λ c. rw (c .before .match .keys1) (c .terminated .ensures))
     (λ c. rw (c .match .keys2))
     (λ c. rw (c .match .keys3))
     (λ c. rw (c .match .keys4))

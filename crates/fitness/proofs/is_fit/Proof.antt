@@ -16,10 +16,10 @@ use Rattle.fitness.proofs.is_fit.Tie as tie
 
 -- The context that is asked about, and the table, where the parameters and where the value have been tested.
 abbrev asked : tie.After-fits-state → Context
-asked c = c .before .before .args .context
+asked c = c .before .args .context
 
 abbrev asked-table : tie.After-fits-state → Table
-asked-table c = c .before .before .args .table
+asked-table c = c .before .args .table
 
 abbrev asked-further : tie.After-struct-known → Context
 asked-further c = asked (c .before .before)
@@ -50,13 +50,13 @@ returns-3 : tie.Need-returns-3
 returns-3 c =
     let u0 = c .before .before in
     let tested = u0 .before .before in
-    in-u0 _ (asked-further (tested .before)) (right-parameters (tested .before .before)) (small-value tested) _ (c .timers-fit .ensures) (is-u0 u0) _ (c .before .is-cleared .ensures)
+    in-u0 _ (asked-further (tested .before)) (right-parameters (tested .before .before)) (small-value tested) _ (c .rest-fits .ensures) (is-u0 u0) _ (c .before .is-cleared .ensures)
 
 returns-4 : tie.Need-returns-4
 returns-4 c =
     let other = c .before in
     let tested = other .before .before in
-    elsewhere _ (asked-further (tested .before)) (right-parameters (tested .before .before)) (small-value tested) _ (c .timers-fit2 .ensures) (is-not-u0 other)
+    elsewhere _ (asked-further (tested .before)) (right-parameters (tested .before .before)) (small-value tested) _ (c .rest-fits2 .ensures) (is-not-u0 other)
 
 pub is-fit-spec : {M : Type 1} → statement M
 is-fit-spec =
