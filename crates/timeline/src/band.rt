@@ -212,7 +212,8 @@ fn draw_entries(
 }
 
 fn draw_entry(descriptor: i32, log: &[u8], view: View, y: u64, place: Place, kind: u8) -> Place {
-    let Found::Read(entry, at) = read_entry(view.table, log, place.at) else {
+    let table = view.table;
+    let Found::Read(entry, at) = read_entry(table, log, place.at) else {
         return next_place(log, view, place);
     };
     let next = onward(view, place, entry, at);

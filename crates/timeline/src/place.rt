@@ -205,7 +205,8 @@ pub(crate) fn onward(view: View, place: Place, entry: Entry, at: usize) -> Place
 
 // The place behind the next entry. Where there is none to be read, the walk stays, and counts on so that it ends.
 pub(crate) fn next_place(log: &[u8], view: View, place: Place) -> Place {
-    let Found::Read(entry, at) = read_entry(view.table, log, place.at) else {
+    let table = view.table;
+    let Found::Read(entry, at) = read_entry(table, log, place.at) else {
         return Place {
             at: place.at,
             number: std::num::wrapping_add_usize(place.number, 1),
