@@ -9,7 +9,8 @@
 
 enum { ROUNDS = 101 };
 
-static struct logs logs, spoilt, cut;
+/* Logs of the newest version, their copies with the last entry spoilt or cut short, and logs of version 1. */
+static struct logs logs, spoilt, cut, old;
 static volatile size_t sink;
 
 /* What is timed: one pass over all that it has. */
@@ -110,11 +111,25 @@ static void same_judgements(const struct logs *of, const char *what, uint32_t wa
         same_judgement(what, i + 1, &of->small[i], wanted);
 }
 
-/* Each byte of a small log changed in turn: any answer, but the same. */
-static void same_when_changed(void)
+/* The logs of each version under the number of the other: any answer, but the same. */
+static void same_under_number(const struct logs *of, enum twin_table table)
 {
     static struct log log;
-    log = logs.small[0];
+    for (size_t i = 0; i < of->smalls; i++) {
+        log = of->small[i];
+        log.bytes[0] = table;
+        struct heidezirkel_judgement ours = heidezirkel_judge(bench_settings, log.bytes, log.used);
+        struct heidezirkel_judgement twin = twin_judge(bench_settings, log.bytes, log.used);
+        if (!alike(&ours, &twin))
+            differ("a log under the number of another version", i + 1);
+    }
+}
+
+/* Each byte of a small log changed in turn: any answer, but the same. */
+static void same_when_changed(const struct log *unchanged)
+{
+    static struct log log;
+    log = *unchanged;
     for (size_t i = 0; i < log.used; i++) {
         uint8_t kept = log.bytes[i];
         for (int bit = 0; bit < 8; bit++) {
@@ -275,6 +290,7 @@ static void show_all(double least)
     printf("%-40s %8s %8s  %-10s %6s\n", "", "ours", "twin", "", "ratio");
     show_judge("judge, 4 KiB, true", logs.small, logs.smalls, least);
     double large = show_judge("judge, 64 KiB, true", &logs.large, 1, least);
+    show_judge("judge, 64 KiB, version 1, true", &old.large, 1, least);
     show_judge("judge, 4 KiB, last entry unexplained", spoilt.small, spoilt.smalls, least);
     double last = show_judge("judge, 64 KiB, last entry unexplained", &spoilt.large, 1, least);
     show_judge("judge, 4 KiB, last entry unreadable", cut.small, cut.smalls, least);
@@ -313,7 +329,8 @@ static int count_one(const char *what, long passes)
 
 int main(int argc, char **argv)
 {
-    make_logs(&logs);
+    make_logs(&logs, NEWEST);
+    make_logs(&old, FIRST);
     if (argc > 2)
         return count_one(argv[1], atol(argv[2]));
     spoil(&spoilt, spoil_claim);
@@ -324,7 +341,11 @@ int main(int argc, char **argv)
     same_judgements(&logs, "true log", HEIDEZIRKEL_TAKEN);
     same_judgements(&spoilt, "log with its last claim changed", HEIDEZIRKEL_UNEXPLAINED);
     same_judgements(&cut, "log cut short", HEIDEZIRKEL_UNREADABLE_LOG);
-    same_when_changed();
+    same_judgements(&old, "true log of version 1", HEIDEZIRKEL_TAKEN);
+    same_under_number(&old, NEWEST);
+    same_under_number(&logs, FIRST);
+    same_when_changed(&logs.small[0]);
+    same_when_changed(&old.small[0]);
     same_steps();
     same_numbers();
     if (differences > 0) {

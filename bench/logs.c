@@ -10,6 +10,7 @@ enum { JOINING_MS = 17000 };
 
 /* A radio while its log is made: the call, the time, and when the timer that runs was started. */
 struct radio {
+    enum twin_table table;
     struct twin_context context;
     struct twin_own own;
     uint64_t now, started;
@@ -309,6 +310,7 @@ static void pack(const struct twin_context *context, uint8_t octets[16])
     octets[2] = 8 * context->mm_est + 4 * context->term + 2 * context->conn_req + context->no_channel;
     octets[3] = context->value;
     memcpy(octets + 4, context->reference, 4);
+    octets[8] = context->from;
 }
 
 static void keep_step(struct logs *logs, const struct radio *radio, const struct happening *happening)
@@ -326,7 +328,8 @@ static void append(struct log *log, const struct happening *happening, const str
     const uint8_t *reply, uint32_t delta)
 {
     log->last = log->used == 0 ? 1 : log->used;
-    log->used = twin_record(log->bytes, log->used, delta, &happening->event, happening->message, happening->length, step, &radio->context, reply);
+    log->used = twin_record(radio->table, log->bytes, log->used, delta, &happening->event, happening->message, happening->length, step,
+        &radio->context, reply);
 }
 
 /* One entry, into the large log and into the small one at hand. */
@@ -338,8 +341,8 @@ static void live(struct logs *logs, struct radio *radio)
     set_time(radio, &happening);
     keep_step(logs, radio, &happening);
     enum twin_timer before = twin_running(&radio->context);
-    struct heidezirkel_step step
-        = twin_take(&radio->context, &radio->own, &happening.event, happening.message, happening.length, reply, sizeof reply);
+    struct heidezirkel_step step = twin_take(
+        radio->table, &radio->context, &radio->own, &happening.event, happening.message, happening.length, reply, sizeof reply);
     radio->now += happening.delta;
     if (twin_running(&radio->context) != before)
         radio->started = radio->now;
@@ -360,9 +363,9 @@ static void make_numbers(struct log *numbers, struct radio *radio)
     }
 }
 
-void make_logs(struct logs *logs)
+void make_logs(struct logs *logs, enum twin_table table)
 {
-    struct radio radio = {.own = twin_read_own(bench_settings), .seed = 20240229};
+    struct radio radio = {.table = table, .own = twin_read_own(bench_settings), .seed = 20240229};
     memset(logs, 0, sizeof *logs);
     /* The longest entry has 4 + 1 + 1 + 2 + 251 + 4 + 2 + 251 bytes. */
     while (logs->large.used < LOG_ROOM - 516) {

@@ -1,4 +1,4 @@
-/* logs.h: what the bench runs on: logs of varied calls, single steps and numbers, the same at each run. */
+/* logs.h: what the bench runs on: logs of varied calls by a step table, single steps and numbers, the same at each run. */
 #ifndef LOGS_H
 #define LOGS_H
 #include "twin.h"
@@ -28,7 +28,7 @@ struct logs {
 };
 
 extern const uint8_t bench_settings[13];
-void make_logs(struct logs *logs);
+void make_logs(struct logs *logs, enum twin_table table);
 /* A log's copy whose last entry claims another state, or lacks its last byte. */
 void spoil_claim(struct log *log);
 void cut_short(struct log *log);

@@ -1,4 +1,4 @@
-/* twin_step.c: the step of a call in plain C: document 01's table, its rules for received messages, and the replies. */
+/* twin_step.c: the step of a call in plain C: document 01's table and what document 02 changes in it, the rules for received messages, and the replies. */
 #include <string.h>
 #include "twin.h"
 
@@ -86,13 +86,23 @@ static bool is_consistent(enum twin_state state, bool orig, bool comm)
     }
 }
 
-static bool is_fit(const struct twin_context *context)
+/* T_term, and what is remembered: in U5 the tables ask different things. */
+static bool is_asked_fitly(enum twin_table table, const struct twin_context *context)
+{
+    if (context->state != U5)
+        return !context->term && context->from == U0;
+    if (table == FIRST)
+        return context->from == U0;
+    return context->term && (context->from == U1 || context->from == U2);
+}
+
+static bool is_fit(enum twin_table table, const struct twin_context *context)
 {
     if (!is_consistent(context->state, context->orig, context->comm) || context->value > 6)
         return false;
     if (context->mm_est ? context->state != U0P && context->state != U1 : context->state == U0P)
         return false;
-    if (context->term && context->state != U5)
+    if (!is_asked_fitly(table, context))
         return false;
     if (context->conn_req != (context->state == U4))
         return false;
@@ -337,9 +347,20 @@ static struct heidezirkel_step get_status(const struct twin_context *context, co
     return taken(0, put_status(context, 30, message, 0, reply));
 }
 
+/* TERMINATION REJECT in U5: document 01 stays there, without a timer. */
+static struct heidezirkel_step rejected(enum twin_table table, struct twin_context *context)
+{
+    context->term = false;
+    if (table != FIRST) {
+        enter(context, context->from);
+        context->from = U0;
+    }
+    return taken(INFORM, 0);
+}
+
 /* The six rules of received messages, in their order. */
-static struct heidezirkel_step hear(struct twin_context *context, const struct twin_own *own, uint8_t mode, const uint8_t *message, size_t length,
-    uint8_t *reply)
+static struct heidezirkel_step hear(enum twin_table table, struct twin_context *context, const struct twin_own *own, uint8_t mode,
+    const uint8_t *message, size_t length, uint8_t *reply)
 {
     if (context->state == U0)
         return ignored(NO_CALL);
@@ -370,8 +391,7 @@ static struct heidezirkel_step hear(struct twin_context *context, const struct t
     case SET_PARAMETER:
         return set_parameters(context, message, length, reply);
     case TERMINATION_REJECT:
-        context->term = false;
-        return taken(INFORM, 0);
+        return rejected(table, context);
     default:
         return end_call(context, INFORM + RELEASE);
     }
@@ -414,12 +434,13 @@ static struct heidezirkel_step while_setting_up(struct twin_context *context, ui
     }
 }
 
-static struct heidezirkel_step terminate(struct twin_context *context, uint8_t *reply)
+static struct heidezirkel_step terminate(enum twin_table table, struct twin_context *context, uint8_t *reply)
 {
     if (!context->orig)
         return answer(HEIDEZIRKEL_NO_STEP);
     context->mm_est = false;
     context->term = true;
+    context->from = table == FIRST ? U0 : context->state;
     enter(context, U5);
     return taken(0, put_reference(context, reply, TERMINATION_REQUEST));
 }
@@ -440,7 +461,8 @@ static struct heidezirkel_step in_u6(struct twin_context *context, uint32_t even
     }
 }
 
-static struct heidezirkel_step happen(struct twin_context *context, const struct twin_own *own, const struct heidezirkel_event *event, uint8_t *reply)
+static struct heidezirkel_step happen(enum twin_table table, struct twin_context *context, const struct twin_own *own,
+    const struct heidezirkel_event *event, uint8_t *reply)
 {
     uint32_t number = event->number;
     if (context->state == U0)
@@ -462,10 +484,10 @@ static struct heidezirkel_step happen(struct twin_context *context, const struct
         return while_setting_up(context, number);
     case U1:
         if (number == 4)
-            return terminate(context, reply);
+            return terminate(table, context, reply);
         return while_setting_up(context, number);
     case U2:
-        return number == 4 ? terminate(context, reply) : answer(HEIDEZIRKEL_NO_STEP);
+        return number == 4 ? terminate(table, context, reply) : answer(HEIDEZIRKEL_NO_STEP);
     case U3:
         if (number != 3)
             return answer(HEIDEZIRKEL_NO_STEP);
@@ -500,10 +522,10 @@ static bool event_in_range(const struct heidezirkel_event *event)
     }
 }
 
-struct heidezirkel_step twin_take(struct twin_context *context, const struct twin_own *own, const struct heidezirkel_event *event,
-    const uint8_t *message, size_t length, uint8_t *reply, size_t room)
+struct heidezirkel_step twin_take(enum twin_table table, struct twin_context *context, const struct twin_own *own,
+    const struct heidezirkel_event *event, const uint8_t *message, size_t length, uint8_t *reply, size_t room)
 {
-    if (!is_fit(context))
+    if (!is_fit(table, context))
         return answer(HEIDEZIRKEL_NO_CONTEXT);
     if (room < 255)
         return answer(HEIDEZIRKEL_SHORT_BUFFER);
@@ -512,18 +534,21 @@ struct heidezirkel_step twin_take(struct twin_context *context, const struct twi
     if (!twin_own_in_range(own) || !event_in_range(event))
         return answer(HEIDEZIRKEL_OUT_OF_RANGE);
     if (event->number == 18)
-        return hear(context, own, event->mode, message, length, reply);
-    return happen(context, own, event, reply);
+        return hear(table, context, own, event->mode, message, length, reply);
+    return happen(table, context, own, event, reply);
 }
 
 static bool read_context(const uint8_t octets[16], struct twin_context *context)
 {
     if (octets[0] > 7 || octets[1] > 15 || octets[2] > 15)
         return false;
-    for (int i = 8; i < 16; i++)
+    if (octets[8] != U0 && octets[8] != U1 && octets[8] != U2)
+        return false;
+    for (int i = 9; i < 16; i++)
         if (octets[i] != 0)
             return false;
     context->state = octets[0];
+    context->from = octets[8];
     context->orig = octets[1] & 8;
     context->comm = octets[1] & 4;
     context->datt = octets[1] & 2;
@@ -544,6 +569,7 @@ static void write_context(const struct twin_context *context, uint8_t octets[16]
     octets[2] = 8 * context->mm_est + 4 * context->term + 2 * context->conn_req + context->no_channel;
     octets[3] = context->value;
     memcpy(octets + 4, context->reference, 4);
+    octets[8] = context->from;
 }
 
 struct heidezirkel_step twin_step(uint8_t octets[16], const uint8_t settings[13], struct heidezirkel_event event, const uint8_t *message,
@@ -553,7 +579,7 @@ struct heidezirkel_step twin_step(uint8_t octets[16], const uint8_t settings[13]
     if (!read_context(octets, &context))
         return answer(HEIDEZIRKEL_NO_CONTEXT);
     struct twin_own own = twin_read_own(settings);
-    struct heidezirkel_step step = twin_take(&context, &own, &event, message, length, reply, room);
+    struct heidezirkel_step step = twin_take(NEWEST, &context, &own, &event, message, length, reply, room);
     write_context(&context, octets);
     return step;
 }

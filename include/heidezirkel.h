@@ -78,10 +78,12 @@ enum {
  *   2        timers that run, added up: 8 T_MM-est, 4 T_term, 2 T_conn req, 1 T_no channel
  *   3        transaction value, 0 to 6
  *   4 to 7   call reference, as it came
- *   8 to 15  zero, kept for later
+ *   8        in U5 the state that the termination was asked from, HEIDEZIRKEL_U1 or HEIDEZIRKEL_U2; elsewhere zero: nothing is remembered
+ *   9 to 15  zero, kept for later
  *
  * Read it as you like; only heidezirkel_clear and heidezirkel_step should write it. Octets that no call can lead to are refused with 7 (state 8,
- * parameters 16, an octet of 8 to 15 that is not zero, a timer that can't run in the state). All 16 octets zero is the cleared context. */
+ * parameters 16, an octet of 9 to 15 that is not zero, a timer that can't run in the state, U5 without T_term or with nothing remembered). All 16
+ * octets zero is the cleared context. Octets that a library before octet 8 had this use has written are contexts still, but in U5. */
 enum { /* octet 0 */
     HEIDEZIRKEL_U0 = 0,   /* NULL: no call */
     HEIDEZIRKEL_U0_P = 1, /* MM CONNECTION PENDING */
@@ -276,7 +278,7 @@ struct heidezirkel_used {
     size_t used;     /* how many bytes are used now; where refused, as many as before */
 };
 
-/* Begins a log: its version, one byte. Answers 0, or 11 where there is no room. Used is then 1, or 0 where refused. */
+/* Begins a log: its version, one byte, 2: that of the table which heidezirkel_step follows. Answers 0, or 11 where there is no room. Used is then 1, or 0 where refused. */
 struct heidezirkel_used heidezirkel_begin_log(uint8_t *log, size_t room);
 
 /* Adds an entry behind the bytes used: `delta_ms` after the entry before (of the first: after the log's beginning), up to 86,400,000; the event with

@@ -41,7 +41,7 @@ pub fn judge(own: &Identity, log: &[u8]) -> String {
     format!("judge {own} {}", hexadecimal(log))
 }
 
-/// A step as a command hands it in; the state may be none.
+/// A step as a command hands it in; the state may be none, and so may the one remembered.
 #[derive(Clone, PartialEq, Eq, Debug)]
 pub struct Step {
     pub state: u8,
@@ -49,6 +49,7 @@ pub struct Step {
     pub timers: u8,
     pub transaction_value: u8,
     pub reference: [u8; 4],
+    pub remembered: u8,
     pub own: Identity,
     pub buffer_length: u32,
     pub event: Event,
@@ -62,6 +63,7 @@ impl Step {
             timers: context.timers.number(),
             transaction_value: context.transaction_value,
             reference: context.reference,
+            remembered: context.remembered_number(),
             own: own.clone(),
             buffer_length: 255,
             event: event.clone(),
@@ -73,12 +75,13 @@ impl fmt::Display for Step {
     fn fmt(&self, line: &mut fmt::Formatter) -> fmt::Result {
         write!(
             line,
-            "step {} {} {} {} {} {} {} {}",
+            "step {} {} {} {} {} {} {} {} {}",
             self.state,
             self.parameters,
             self.timers,
             self.transaction_value,
             hexadecimal(&self.reference),
+            self.remembered,
             self.own,
             self.buffer_length,
             event(&self.event)

@@ -1,6 +1,8 @@
 //! Events by their numbers, and what each of them carries (document 01,
 //! "Events and steps").
 
+use crate::tables::Table;
+
 pub const SET_UP_REQUEST: u32 = 1;
 pub const IMMEDIATE_SET_UP_REQUEST: u32 = 2;
 pub const JOIN: u32 = 3;
@@ -44,8 +46,14 @@ pub enum Carries {
     Message,
 }
 
-/// None for a number that is no event.
-pub fn carries(number: u32) -> Option<Carries> {
+/// None for a number that is no event of this table.
+pub fn carries(table: Table, number: u32) -> Option<Carries> {
+    match table {
+        Table::First | Table::Second => carries_in_broadcast(number),
+    }
+}
+
+fn carries_in_broadcast(number: u32) -> Option<Carries> {
     match number {
         SET_UP_REQUEST | IMMEDIATE_SET_UP_REQUEST | BROADCAST_NOTIFIED => Some(Carries::Call),
         MESSAGE_RECEIVED => Some(Carries::Message),

@@ -1,5 +1,5 @@
-//! The second program: document 01 and the standard (GSM 04.69, 7.2.0) written
-//! down once more, so that another program can be compared with it command by
+//! The second program: document 01, what document 02 changes in it and the
+//! standard (GSM 04.69, 7.2.0) written down once more, so that another program can be compared with it command by
 //! command. This file has the subcommands alone.
 
 mod answer;
@@ -15,6 +15,7 @@ mod reason;
 mod settings;
 mod state;
 mod step;
+mod tables;
 mod timer;
 mod vectors;
 
@@ -29,6 +30,8 @@ usage: second probe
            answers the commands on standard input, a line each
        second generate SEED COUNT [WORD..]
            prints COUNT commands, the same ones for the same SEED; with words, only those
+       second versions SEED COUNT
+           prints judge commands: COUNT runs by each table, under the number of each version
        second vectors WORD
            prints the fixed set of commands for one word
        second --help
@@ -48,6 +51,10 @@ fn main() -> ExitCode {
             (Ok(seed), Ok(count)) if chosen.iter().all(|word| probe::WORDS.contains(word)) => {
                 generate::run(seed, count, chosen, &mut output)
             }
+            _ => return usage_error(),
+        },
+        ["versions", seed, count] => match (seed.parse(), count.parse()) {
+            (Ok(seed), Ok(count)) => generate::versions::run(seed, count, &mut output),
             _ => return usage_error(),
         },
         ["vectors", word] if probe::WORDS.contains(word) => vectors::run(word, &mut output),

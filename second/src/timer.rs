@@ -1,7 +1,8 @@
-//! The four timers: how long they run and in which states (document 01,
-//! "The context"; the standard, table 6.1).
+//! The four timers: how long they run and, by the table, in which states
+//! (document 01, "The context"; document 02, A2; the standard, table 6.1).
 
 use crate::state::State;
+use crate::tables::Table;
 use State::*;
 
 #[derive(Clone, Copy, PartialEq, Eq, Debug)]
@@ -29,12 +30,25 @@ pub struct TimerRow {
 }
 
 #[rustfmt::skip]
-pub const TIMERS: [TimerRow; 4] = [
-    TimerRow { timer: MmEst,     milliseconds: Some(5_000),  always_in: &[U0p], optionally_in: &[U1], expiry: 14 },
-    TimerRow { timer: Term,      milliseconds: Some(10_000), always_in: &[],    optionally_in: &[U5], expiry: 15 },
-    TimerRow { timer: ConnReq,   milliseconds: None,         always_in: &[U4],  optionally_in: &[],   expiry: 16 },
-    TimerRow { timer: NoChannel, milliseconds: Some(3_000),  always_in: &[],    optionally_in: &[U6], expiry: 17 },
-];
+mod rows {
+    use super::*;
+
+    pub const MM_EST: TimerRow          = TimerRow { timer: MmEst,     milliseconds: Some(5_000),  always_in: &[U0p], optionally_in: &[U1], expiry: 14 };
+    pub const TERM_AT_FIRST: TimerRow   = TimerRow { timer: Term,      milliseconds: Some(10_000), always_in: &[],    optionally_in: &[U5], expiry: 15 };
+    pub const TERM: TimerRow            = TimerRow { timer: Term,      milliseconds: Some(10_000), always_in: &[U5],  optionally_in: &[],   expiry: 15 };
+    pub const CONN_REQ: TimerRow        = TimerRow { timer: ConnReq,   milliseconds: None,         always_in: &[U4],  optionally_in: &[],   expiry: 16 };
+    pub const NO_CHANNEL: TimerRow      = TimerRow { timer: NoChannel, milliseconds: Some(3_000),  always_in: &[],    optionally_in: &[U6], expiry: 17 };
+}
+
+impl Table {
+    pub fn timers(self) -> &'static [TimerRow; 4] {
+        use rows::*;
+        match self {
+            Table::First => &[MM_EST, TERM_AT_FIRST, CONN_REQ, NO_CHANNEL],
+            Table::Second => &[MM_EST, TERM, CONN_REQ, NO_CHANNEL],
+        }
+    }
+}
 
 /// Which of the four timers run.
 #[derive(Clone, Copy, PartialEq, Eq, Debug, Default)]
@@ -82,8 +96,8 @@ impl RunningTimers {
     }
 
     /// Each timer runs where it always does, and runs nowhere that the table does not name.
-    pub fn fit_for(&self, state: State) -> bool {
-        TIMERS.iter().all(|row| {
+    pub fn fit_for(&self, table: Table, state: State) -> bool {
+        table.timers().iter().all(|row| {
             let runs = self.runs(row.timer);
             let must = row.always_in.contains(&state);
             let may = must || row.optionally_in.contains(&state);

@@ -1,5 +1,5 @@
 /* promises: what the line protocol can't show of the C library: octets that are no context, the reasons of a settings file, a call that is recorded and judged.
- * The expected values are worked out by hand from document 01. Status 1, and a line on standard error for each, where one is not as promised. */
+ * The expected values are worked out by hand from documents 01 and 02. Status 1, and a line on standard error for each, where one is not as promised. */
 #include "heidezirkel.h"
 #include "lent.h"
 #include <stdio.h>
@@ -58,6 +58,24 @@ static void check_contexts(void) {
     EXPECT(answer_to(fit, 254) == HEIDEZIRKEL_SHORT_BUFFER);
 }
 
+/* U5 with T_term is fit where octet 8 is 2 (U1) or 3 (U2); "channel available" has no step there. */
+static void check_remembered(void) {
+    uint8_t asked[16] = {HEIDEZIRKEL_U5, 15, HEIDEZIRKEL_T_TERM, 6, 1, 2, 3, 4};
+    for (unsigned from = 0; from < 256; from++) {
+        bool fit = from == HEIDEZIRKEL_U1 || from == HEIDEZIRKEL_U2;
+        asked[8] = (uint8_t)from;
+        EXPECT(answer_to(asked, 255) == (fit ? HEIDEZIRKEL_NO_STEP : HEIDEZIRKEL_NO_CONTEXT));
+    }
+    asked[8] = HEIDEZIRKEL_U2;
+    for (size_t place = 9; place < 16; place++) {
+        asked[place] = 1;
+        EXPECT(answer_to(asked, 255) == HEIDEZIRKEL_NO_CONTEXT);
+        asked[place] = 0;
+    }
+    asked[2] = 0;
+    EXPECT(answer_to(asked, 255) == HEIDEZIRKEL_NO_CONTEXT);
+}
+
 static void check_reason(const char *text, size_t line, uint32_t fault) {
     struct lent octets = lend(13);
     struct lent file = lend_octets((const uint8_t *)text, strlen(text));
@@ -105,9 +123,9 @@ static void happen(struct recording *now, uint32_t delta, struct heidezirkel_eve
     EXPECT(kept(&now->log, now->used));
 }
 
-/* Case c6 of document 01, then a GET STATUS that is ignored, TERMINATION, and a call of the radio's own, whose reply is logged. */
+/* Case c6 of document 01 in version 2, then a GET STATUS that is ignored, TERMINATION, and a call of the radio's own, whose reply is logged. */
 static const uint8_t worked_out[] = {
-    0x01,
+    0x02,
     0x00, 0x0a, 0x01, 1, 2, 3, 4, 0x00, 0x04, 0x00, 0x01, 0x00,
     0x00, 0x03, 0x00, 0x05, 0x00, 0x04, 0x00,
     0xa0, 0x9c, 0x01, 0x0b, 0x00, 0x07, 0x02, 0x01, 0x00,
@@ -128,6 +146,36 @@ static void play(struct recording *now) {
     happen(now, 5, (struct heidezirkel_event){.number = HEIDEZIRKEL_EVENT_RECEIVED, .mode = 1}, get_status, 2);
     happen(now, 0, (struct heidezirkel_event){.number = HEIDEZIRKEL_EVENT_RECEIVED}, termination, 4);
     happen(now, 0, immediate, nothing, 0);
+}
+
+/* A step from one context to another, octet for octet. */
+static void leads(const uint8_t before[16], uint32_t event, const uint8_t *message, size_t length, const uint8_t after[16], uint32_t actions) {
+    struct lent context = lend_octets(before, 16);
+    uint8_t reply[255];
+    struct heidezirkel_step step =
+        heidezirkel_step(context.octets, settings, (struct heidezirkel_event){.number = event}, message, length, reply, sizeof reply);
+    EXPECT(step.answer == HEIDEZIRKEL_TAKEN && step.actions == actions);
+    EXPECT(memcmp(context.octets, after, 16) == 0);
+    give_back(&context);
+}
+
+/* A termination is asked from U1 and from U2, and rejected: back to the state, with its row and without a timer. */
+static void check_return(void) {
+    static const uint8_t in_u1[16] = {HEIDEZIRKEL_U1, 12, HEIDEZIRKEL_T_MM_EST, 2, 5, 6, 7, 8};
+    static const uint8_t from_u1[16] = {HEIDEZIRKEL_U5, 15, HEIDEZIRKEL_T_TERM, 2, 5, 6, 7, 8, HEIDEZIRKEL_U1};
+    static const uint8_t back_in_u1[16] = {HEIDEZIRKEL_U1, 12, 0, 2, 5, 6, 7, 8};
+    static const uint8_t in_u2[16] = {HEIDEZIRKEL_U2, 15, 0, 2, 5, 6, 7, 8};
+    static const uint8_t from_u2[16] = {HEIDEZIRKEL_U5, 15, HEIDEZIRKEL_T_TERM, 2, 5, 6, 7, 8, HEIDEZIRKEL_U2};
+    static const uint8_t cleared[16];
+    static const uint8_t reject[] = {0xa1, 0x36, 0x01, 0x98};
+    static const uint8_t termination[] = {0xa1, 0x34, 0x01, 0x90};
+    leads(in_u1, HEIDEZIRKEL_EVENT_TERMINATE, nothing, 0, from_u1, 0);
+    leads(back_in_u1, HEIDEZIRKEL_EVENT_TERMINATE, nothing, 0, from_u1, 0);
+    leads(from_u1, HEIDEZIRKEL_EVENT_RECEIVED, reject, sizeof reject, back_in_u1, HEIDEZIRKEL_DO_INFORM);
+    leads(in_u2, HEIDEZIRKEL_EVENT_TERMINATE, nothing, 0, from_u2, 0);
+    leads(from_u2, HEIDEZIRKEL_EVENT_RECEIVED, reject, sizeof reject, in_u2, HEIDEZIRKEL_DO_INFORM);
+    leads(from_u2, HEIDEZIRKEL_EVENT_RECEIVED, termination, sizeof termination, cleared, HEIDEZIRKEL_DO_INFORM + HEIDEZIRKEL_DO_RELEASE);
+    leads(from_u1, HEIDEZIRKEL_EVENT_TERM_EXPIRED, nothing, 0, cleared, HEIDEZIRKEL_DO_INFORM + HEIDEZIRKEL_DO_ABORT);
 }
 
 static void check_begin(struct recording *now) {
@@ -153,7 +201,7 @@ static void check_recorded(struct recording *now) {
 
 /* The recorder looks at the answer and actions of a step, at state and parameters of a context, and at the reply's own length. */
 static void check_looked_at(void) {
-    static const uint8_t expected[] = {0x01, 0x00, 0x03, 0x03, 0x00, 0x00, 0x00, 0x00};
+    static const uint8_t expected[] = {0x02, 0x00, 0x03, 0x03, 0x00, 0x00, 0x00, 0x00};
     static const uint8_t context[16] = {0, 0, 255, 255, 1, 2, 3, 4, 5, 6, 7, 8, 9, 10, 11, 12};
     struct heidezirkel_event join = {.number = HEIDEZIRKEL_EVENT_JOIN, .value = 255, .mode = 255, .reference = {1, 2, 3, 4}};
     struct heidezirkel_step step = {.answer = HEIDEZIRKEL_NO_STEP, .reason = 6, .reply_length = 7};
@@ -173,10 +221,14 @@ static void check_judged(const struct recording *now) {
     judged = heidezirkel_judge(settings, now->log.octets, now->used);
     EXPECT(judged.answer == HEIDEZIRKEL_UNEXPLAINED && judged.entry == 2);
     now->log.octets[18] ^= 8;
+    /* No termination is rejected in it: version 1 has the same rows. There is no other version. */
+    for (unsigned version = 0; version < 256; version++) {
+        now->log.octets[0] = (uint8_t)version;
+        judged = heidezirkel_judge(settings, now->log.octets, now->used);
+        EXPECT(judged.answer == (version == 1 || version == 2 ? HEIDEZIRKEL_TAKEN : HEIDEZIRKEL_UNREADABLE_LOG));
+        EXPECT(judged.entry == (version == 1 || version == 2 ? 6 : 0));
+    }
     now->log.octets[0] = 2;
-    judged = heidezirkel_judge(settings, now->log.octets, now->used);
-    EXPECT(judged.answer == HEIDEZIRKEL_UNREADABLE_LOG && judged.entry == 0);
-    now->log.octets[0] = 1;
 }
 
 /* No settings: what a host has that began with zeros and did not look. And octets behind the identity, which have no effect. */
@@ -213,6 +265,8 @@ int main(void) {
     struct recording recording = {.log = lend(200)};
     check_clear();
     check_contexts();
+    check_remembered();
+    check_return();
     check_reasons();
     check_begin(&recording);
     check_recorded(&recording);

@@ -26,7 +26,7 @@ struct heidezirkel_event event_words(struct line *line, uint32_t greatest) {
     return event;
 }
 
-/* The words STATE PARAMETERS TIMERS VALUE REFERENCE as 16 context octets. */
+/* The words STATE PARAMETERS TIMERS VALUE REFERENCE FROM as 16 context octets. */
 static void context_words(struct line *line, uint8_t context[16]) {
     memset(context, 0, 16);
     context[0] = (uint8_t)number_word(line, 255);
@@ -34,6 +34,7 @@ static void context_words(struct line *line, uint8_t context[16]) {
     context[2] = (uint8_t)number_word(line, 15);
     context[3] = (uint8_t)number_word(line, 255);
     exact_word(line, context + 4, 4);
+    context[8] = (uint8_t)number_word(line, 255);
 }
 
 /* What holds of every step: which octets are as they were, and what is fixed where there is no answer 0. */
@@ -48,15 +49,19 @@ static void look_at_step(struct heidezirkel_step step, const struct lent *contex
     promise(sends || step.reply_length == 0, "step: a reply without answer 0 or 2");
     promise(step.answer <= HEIDEZIRKEL_NO_CONTEXT, "step: an answer over 7");
     promise(ignores ? step.reason >= 1 && step.reason <= 6 : step.reason == 0, "step: a reason that does not go with the answer");
-    for (size_t i = 8; i < 16; i++)
+    for (size_t i = 9; i < 16; i++)
         promise(context->octets[i] == 0, "step: a kept octet of the context is not zero");
+    bool remembers = context->octets[8] == HEIDEZIRKEL_U1 || context->octets[8] == HEIDEZIRKEL_U2;
+    bool asked = context->octets[0] == HEIDEZIRKEL_U5;
+    promise(step.answer == HEIDEZIRKEL_NO_CONTEXT || (asked ? remembers : context->octets[8] == 0),
+        "step: another state is remembered than U1 or U2 in U5, or something outside it");
     refusals_seen += !sends;
 }
 
 static void print_step(struct heidezirkel_step step, const uint8_t *context, const uint8_t *reply) {
     printf("%u %u %u %u %u ", step.answer, context[0], context[1], context[2], context[3]);
     print_octets(context + 4, 4);
-    printf(" %u ", step.actions);
+    printf(" %u %u ", context[8], step.actions);
     print_octets(reply, step.reply_length);
     printf(" %u", step.reason);
 }

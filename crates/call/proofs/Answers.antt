@@ -11,13 +11,14 @@ use Rattle.octets.proofs.Choice.{at-cond}
 use Rattle.codes.specs.Attributes.{parametersOf}
 use Rattle.context.specs.declared.Context.{Context}
 use Rattle.fitness.specs.Fitness.{Fitness, consistentBy}
-use Rattle.fitness.specs.First.{firstFitness}
+use Rattle.version.specs.declared.Table.{Table}
+use Rattle.fitness.specs.Tables.{fitnessOf}
 use Rattle.transitions.specs.declared.Send.{Send}
 use Rattle.transitions.specs.declared.Send.the-variants.{Nothing}
 use Rattle.transitions.specs.declared.Decision.{Decision}
 use Rattle.transitions.specs.declared.Decision.the-variants.{Take, NoStep, Ignore, Report, TellStatus, SetParameters}
 use Rattle.transitions.specs.Table.{Row, stepTable}
-use Rattle.transitions.proofs.Sound.{Sound, document-01}
+use Rattle.transitions.proofs.Sound.{Sound, rows-sound}
 use Rattle.transitions.proofs.Decided.{OfTaken, decided-few}
 use Rattle.call.specs.declared.Due.{Due}
 use Rattle.call.specs.declared.Due.the-variants.{Steps, Ignored, Reported, Refused}
@@ -111,6 +112,6 @@ module _ (fitness : Fitness) (most : ℕ) (x : Context) where
   settled-by table sound (Reported cause) = reported-right cause
   settled-by table sound Refused = no-step-right
 
--- By document 01's rows.
-pub settled-right : (x : Context) (due : Due) → Right 63 x (settled x due)
-settled-right x = settled-by firstFitness 63 x stepTable document-01
+-- By a step table.
+pub settled-right : (table : Table) (x : Context) (due : Due) → Right 63 x (settled table x due)
+settled-right table x = settled-by (fitnessOf table) 63 x (stepTable table) (rows-sound table)

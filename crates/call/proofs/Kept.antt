@@ -25,19 +25,20 @@ use Rattle.message.specs.declared.Message.the-variants.{
 use Rattle.context.specs.declared.Context.{Context}
 use Rattle.context.specs.States.{same}
 use Rattle.context.specs.Context.{entering, cleared}
-use Rattle.fitness.specs.Fitness.{Fitness, consistentBy, timersFitBy, fitBy}
-use Rattle.fitness.specs.First.{firstFitness, consistent, fitOf}
+use Rattle.fitness.specs.Fitness.{Fitness, consistentBy, timersFitBy, rememberedFitBy, fitBy}
+use Rattle.version.specs.declared.Table.{Table}
+use Rattle.fitness.specs.Tables.{fitnessOf, consistent, fitOf}
 use Rattle.context.proofs.States.{same-state}
-use Rattle.context.proofs.Whole.{and-right, if-so}
-use Rattle.fitness.proofs.Fit.{fit-consistent, fit-value, fit-timers, fit-made}
+use Rattle.context.proofs.Whole.{and-left, and-right, and-both, if-so}
+use Rattle.fitness.proofs.Fit.{fit-consistent, fit-value, fit-timers, fit-remembered, fit-made}
 use Rattle.fitness.proofs.Sound.{entering-consistent, cleared-sound}
 use Rattle.transitions.specs.declared.Stores.{Stores}
 use Rattle.transitions.specs.declared.Stores.the-variants.{Nothing, ValueAndReference, ItsReference}
 use Rattle.transitions.specs.declared.Taken.{Taken}
 use Rattle.transitions.specs.declared.Decision.{Decision}
 use Rattle.transitions.specs.declared.Decision.the-variants.{Take, NoStep, Ignore, Report, TellStatus, SetParameters}
-use Rattle.transitions.specs.Table.{Row, stepTable, timersAfter, decidedBy}
-use Rattle.transitions.proofs.Sound.{Sound, document-01}
+use Rattle.transitions.specs.Table.{Row, stepTable, timersAfter, rememberedAfter, decidedBy}
+use Rattle.transitions.proofs.Sound.{Sound, rows-sound}
 use Rattle.transitions.proofs.Decided.{Keeps, decided-keeps}
 use Rattle.call.specs.declared.Due.{Due}
 use Rattle.call.specs.declared.Due.the-variants.{Steps, Ignored, Reported, Refused}
@@ -86,8 +87,8 @@ DueFit Refused = Unit {0}
 
 -- ---- after a step
 
-abbrev pub Fit : Settled → Type 0
-Fit r = fitOf (r .context) ≡ true
+abbrev pub Fit : Table → Settled → Type 0
+Fit table r = fitOf table (r .context) ≡ true
 
 module _ (fitness : Fitness) (most : ℕ) (table : List Row) (sound : Sound fitness most table) (x : Context) (fit : fitBy fitness x ≡ true) where
   abbrev StaysFit : Context → Type 0
@@ -108,9 +109,12 @@ module _ (fitness : Fitness) (most : ℕ) (table : List Row) (sound : Sound fitn
   afterwards-fit d e keeps fits =
       at-cond StaysFit (same (d .next) U0) _ _ (λ u. cleared-sound fitness (sound .fitness-sound))
       (λ u.
-      let k : (not (timersFitBy fitness (x .state) (x .timers)) || timersFitBy fitness (d .next) (timersAfter d (x .timers))) ≡ true = rw u at keeps in
+      let k : (not (timersFitBy fitness (x .state) (x .timers) && rememberedFitBy fitness (x .state) (x .remembered))
+      || (timersFitBy fitness (d .next) (timersAfter d (x .timers)) && rememberedFitBy fitness (d .next) (rememberedAfter (d .memory) (x .state) (x .remembered)))) ≡ true
+      = rw u at keeps in
+      let both = if-so _ _ k (and-both _ _ (fit-timers fitness x fit) (fit-remembered fitness x fit)) in
       fit-made fitness _ (parameters-fit (d .next)) (value-fits (d .stores) (e .value) (x .value) fits (fit-value fitness x fit))
-      (not-u0 (same (d .next) U0) _ u) (if-so _ _ k (fit-timers fitness x fit)))
+      (not-u0 (same (d .next) U0) _ u) (and-left (timersFitBy fitness (d .next) (timersAfter d (x .timers))) _ both) (and-right (timersFitBy fitness (d .next) (timersAfter d (x .timers))) _ both))
 
   reported-fit : (cause : ℕ) → StepFits (reportedWith cause x)
   unfolding reportedWith ignored
@@ -125,7 +129,7 @@ module _ (fitness : Fitness) (most : ℕ) (table : List Row) (sound : Sound fitn
   carried-fit TellStatus e keeps fits = at-cond StepFits (x .parameters .comm) _ _ (λ q. fit) (λ q. fit)
   carried-fit SetParameters e keeps fits =
       at-cond StepFits (consistentBy fitness (x .state) (parametersOf (e .attributes))) _ _
-      (λ q. fit-made fitness _ q (fit-value fitness x fit) (not-u0 (same (x .state) U0) _ keeps) (fit-timers fitness x fit)) (λ q. reported-fit 98)
+      (λ q. fit-made fitness _ q (fit-value fitness x fit) (not-u0 (same (x .state) U0) _ keeps) (fit-timers fitness x fit) (fit-remembered fitness x fit)) (λ q. reported-fit 98)
 
   -- A step by sound rows from a fit context ends in a fit one, where the value that the event carries is at most 6.
   step-by : (event : Event) → leb (seenOf event .value) 6 ≡ true → StepFits (stepBy fitness table x event)
@@ -140,9 +144,9 @@ module _ (fitness : Fitness) (most : ℕ) (table : List Row) (sound : Sound fitn
   fit-by (Reported cause) fits = reported-fit cause
   fit-by Refused fits = fit
 
--- By document 01's rows.
-pub settled-fit : (x : Context) → fitOf x ≡ true → (due : Due) → DueFit due → Fit (settled x due)
-settled-fit = fit-by firstFitness 63 stepTable document-01
+-- By a step table.
+pub settled-fit : (table : Table) (x : Context) → fitOf table x ≡ true → (due : Due) → DueFit due → Fit table (settled table x due)
+settled-fit table = fit-by (fitnessOf table) 63 (stepTable table) (rows-sound table)
 
 -- A message carries no value.
 message-value : (m : Message) → seenMessage m .value ≡ 0
@@ -162,20 +166,20 @@ unfolding seenOf
 received-value mode m = rw (message-value m)
 
 -- Where some parameters are inconsistent with a state, COMM true is.
-silent : (s : State) (p q : Parameters) → consistent s p ≡ false → consistent s q ≡ true → q .comm ≡ false
-unfolding consistentBy firstFitness
-silent U0 p q e f = not-true _ f
-silent U0p p q e f = never (sym e)
-silent U1 p q e f = never (sym e)
-silent U2 p q e f = never (sym e)
-silent U3 p q e f = not-true _ (and-right (not (q .orig)) _ f)
-silent U4 p q e f = not-true _ (and-right (not (q .orig)) _ f)
-silent U5 p q e f = never (sym e)
-silent U6 p q e f = not-true _ (and-right (not (q .orig)) _ f)
+silent : (table : Table) (s : State) (p q : Parameters) → consistent table s p ≡ false → consistent table s q ≡ true → q .comm ≡ false
+unfolding consistentBy fitnessOf
+silent table U0 p q e f = not-true _ f
+silent table U0p p q e f = never (sym e)
+silent table U1 p q e f = never (sym e)
+silent table U2 p q e f = never (sym e)
+silent table U3 p q e f = not-true _ (and-right (not (q .orig)) _ f)
+silent table U4 p q e f = not-true _ (and-right (not (q .orig)) _ f)
+silent table U5 p q e f = never (sym e)
+silent table U6 p q e f = not-true _ (and-right (not (q .orig)) _ f)
 
 -- An inconsistent SET PARAMETER is always ignored in a fit context: answer 1, COMM false.
-pub inconsistent-ignored : (x : Context) (attributes : ℕ) → fitOf x ≡ true → consistent (x .state) (parametersOf attributes) ≡ false → parametersSet firstFitness attributes x ≡ ignored CommFalse x
+pub inconsistent-ignored : (table : Table) (x : Context) (attributes : ℕ) → fitOf table x ≡ true → consistent table (x .state) (parametersOf attributes) ≡ false → parametersSet (fitnessOf table) attributes x ≡ ignored CommFalse x
 unfolding parametersSet reportedWith
-inconsistent-ignored x attributes fit e =
-    let c : x .parameters .comm ≡ false = silent (x .state) (parametersOf attributes) (x .parameters) e (fit-consistent firstFitness x fit) in
+inconsistent-ignored table x attributes fit e =
+    let c : x .parameters .comm ≡ false = silent table (x .state) (parametersOf attributes) (x .parameters) e (fit-consistent (fitnessOf table) x fit) in
     rw (e, c)

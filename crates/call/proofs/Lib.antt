@@ -1,5 +1,6 @@
 pub mod Reasons
 pub mod Kept
+pub mod Return
 pub mod Answers
 pub mod Timed
 pub mod Coincide

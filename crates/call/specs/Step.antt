@@ -11,7 +11,8 @@ use Rattle.context.specs.declared.Context.{Context}
 use Rattle.context.specs.States.{same}
 use Rattle.context.specs.Context.{entering, cleared}
 use Rattle.fitness.specs.Fitness.{Fitness, consistentBy}
-use Rattle.fitness.specs.First.{firstFitness}
+use Rattle.version.specs.declared.Table.{Table}
+use Rattle.fitness.specs.Tables.{fitnessOf}
 use Rattle.transitions.specs.declared.Send.{Send}
 use Rattle.transitions.specs.declared.Send.the-variants as Send
 use Rattle.transitions.specs.declared.Stores.{Stores}
@@ -19,7 +20,7 @@ use Rattle.transitions.specs.declared.Stores.the-variants.{Nothing, ValueAndRef
 use Rattle.transitions.specs.declared.Taken.{Taken}
 use Rattle.transitions.specs.declared.Decision.{Decision}
 use Rattle.transitions.specs.declared.Decision.the-variants.{Take, NoStep, Ignore, Report, TellStatus, SetParameters}
-use Rattle.transitions.specs.Table.{Row, stepTable, timersAfter, decidedBy}
+use Rattle.transitions.specs.Table.{Row, stepTable, timersAfter, rememberedAfter, decidedBy}
 use Rattle.call.specs.declared.Event.{Event}
 use Rattle.call.specs.declared.Reason.{Reason}
 use Rattle.call.specs.declared.Reason.the-variants.{NoCall, CommFalse}
@@ -53,6 +54,7 @@ afterwards x d e =
       timers = timersAfter d (x .timers);
       value = valueAfter (d .stores) (e .value) (x .value);
       reference = referenceAfter (d .stores) (e .reference) (x .reference);
+      remembered = rememberedAfter (d .memory) (x .state) (x .remembered);
     })
 
 -- Answer 0: taken.
@@ -77,7 +79,8 @@ statusTold x = cond (x .parameters .comm) (took x 0 (Send.Status 30)) (ignored C
 
 -- The context with other parameters.
 abbrev pub withParameters : Parameters → Context → Context
-withParameters p x = record { state = x .state; parameters = p; timers = x .timers; value = x .value; reference = x .reference }
+withParameters p x =
+    record { state = x .state; parameters = p; timers = x .timers; value = x .value; reference = x .reference; remembered = x .remembered }
 
 -- SET PARAMETER: consistent values are set, answer 0, no reply. Inconsistent ones set nothing and are reported with the cause 6.5.1.2 names,
 -- "message incompatible with protocol state": 98.
@@ -97,8 +100,8 @@ carriedOut fitness x SetParameters e = parametersSet fitness (e .attributes) x
 
 -- The step of an event by a table's rows, and what it says of fitness: its row for the event, carried out.
 unfoldable pub stepBy : Fitness → List Row → Context → Event → Settled
-stepBy fitness table x event = let e : Seen = seenOf event in carriedOut fitness x (decidedBy table x (e .number) (e .code)) e
+stepBy fitness rows x event = let e : Seen = seenOf event in carriedOut fitness x (decidedBy rows x (e .number) (e .code)) e
 
--- By document 01's.
-abbrev pub stepValue : Context → Event → Settled
-stepValue = stepBy firstFitness stepTable
+-- By a step table.
+abbrev pub stepValue : Table → Context → Event → Settled
+stepValue table = stepBy (fitnessOf table) (stepTable table)

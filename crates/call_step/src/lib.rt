@@ -1,6 +1,7 @@
 // The step of a call, by value: what the step table's row for an event brings about, and what else befalls what happens.
 ghost use mathlib.Core.Path.{_≡_};
-ghost use Rattle.fitness.specs.First.{firstFitness};
+ghost use Rattle.fitness.specs.Tables.{fitnessOf};
+ghost use Rattle.transitions.specs.Table.{rememberedAfter};
 ghost use Rattle.call.specs.Due.{settled};
 ghost use Rattle.call.specs.Step.{parametersAfter, valueAfter, referenceAfter, afterwards, noStep, ignored, reportedWith, statusTold, parametersSet, carriedOut, stepValue};
 use call::Due;
@@ -11,11 +12,14 @@ use call::Settled;
 use codes::attributes::Parameters;
 use codes::state::State;
 use context::Context;
+use context::Remembered;
 use message::Reference;
 use transitions::Decision;
+use transitions::Memory;
 use transitions::Send;
 use transitions::Stores;
 use transitions::Taken;
+use version::Table;
 
 // Entering a state sets its row; a step that stays in its state keeps the parameters.
 fn parameters_after(context: Context, next: State) -> Parameters
@@ -52,6 +56,17 @@ fn reference_after(stores: Stores, carried: Reference, kept: Reference) -> Refer
     }
 }
 
+// What is remembered after a row.
+fn remembered_after(memory: Memory, here: State, kept: Remembered) -> Remembered
+    ensures { λ r. ⌜ r ≡ rememberedAfter memory here kept ⌝ }
+{
+    match memory {
+        Memory::Keep => kept,
+        Memory::Remember => context::remembering(here),
+        Memory::Forget => Remembered::Nothing,
+    }
+}
+
 // The context after a row of the table: entering U0 clears.
 fn afterwards(context: Context, taken: Taken, seen: Seen) -> Context
     ensures { λ r. ⌜ r ≡ afterwards context taken seen ⌝ }
@@ -72,12 +87,17 @@ fn afterwards(context: Context, taken: Taken, seen: Seen) -> Context
     let timers = timer::with_timer(sets, true, stopped);
     let value = value_after(stores, seen.value, context.value);
     let reference = reference_after(stores, carried, kept);
+    let memory = taken.memory;
+    let here = context.state;
+    let minded = context.remembered;
+    let remembered = remembered_after(memory, here, minded);
     Context {
         state: next,
         parameters,
         timers,
         value,
         reference,
+        remembered,
     }
 }
 
@@ -143,20 +163,22 @@ fn tell_status(context: Context) -> Settled
 }
 
 // SET PARAMETER: consistent values are set, inconsistent ones are reported with the cause that 6.5.1.2 names.
-fn set_parameters(context: Context, attributes: u8) -> Settled
-    ensures { λ r. ⌜ r ≡ parametersSet firstFitness attributes context ⌝ }
+fn set_parameters(table: Table, context: Context, attributes: u8) -> Settled
+    ensures { λ r. ⌜ r ≡ parametersSet (fitnessOf table) attributes context ⌝ }
 {
     let state = context.state;
     let timers = context.timers;
     let reference = context.reference;
+    let remembered = context.remembered;
     let parameters = codes::attributes::parameters_of(attributes);
-    if fitness::is_consistent(state, parameters) {
+    if fitness::is_consistent(table, state, parameters) {
         let set = Context {
             state,
             parameters,
             timers,
             value: context.value,
             reference,
+            remembered,
         };
         return Settled {
             answer: 0,
@@ -170,8 +192,8 @@ fn set_parameters(context: Context, attributes: u8) -> Settled
 }
 
 // What the table's decision brings about.
-fn carry_out(context: Context, decision: Decision, seen: Seen) -> Settled
-    ensures { λ r. ⌜ r ≡ carriedOut firstFitness context decision seen ⌝ }
+fn carry_out(table: Table, context: Context, decision: Decision, seen: Seen) -> Settled
+    ensures { λ r. ⌜ r ≡ carriedOut (fitnessOf table) context decision seen ⌝ }
 {
     match decision {
         Decision::Take(taken) => {
@@ -189,25 +211,25 @@ fn carry_out(context: Context, decision: Decision, seen: Seen) -> Settled
         Decision::Ignore => ignore(context, Reason::NoCall),
         Decision::Report(cause) => report(context, cause),
         Decision::TellStatus => tell_status(context),
-        Decision::SetParameters => set_parameters(context, seen.attributes),
+        Decision::SetParameters => set_parameters(table, context, seen.attributes),
     }
 }
 
 // The step: the table's row for the event, carried out.
-pub fn step(context: Context, event: Event) -> Settled
-    ensures { λ r. ⌜ r ≡ stepValue context event ⌝ }
+pub fn step(table: Table, context: Context, event: Event) -> Settled
+    ensures { λ r. ⌜ r ≡ stepValue table context event ⌝ }
 {
     let seen = call::seen_event(event);
-    let decision = event_rows::decide(context, seen.number, seen.code);
-    carry_out(context, decision, seen)
+    let decision = event_rows::decide(table, context, seen.number, seen.code);
+    carry_out(table, context, decision, seen)
 }
 
 // What is due, done. All that happens comes through here, so that the step stands in one place of a program and is built into it.
-pub fn settle(context: Context, due: Due) -> Settled
-    ensures { λ r. ⌜ r ≡ settled context due ⌝ }
+pub fn settle(table: Table, context: Context, due: Due) -> Settled
+    ensures { λ r. ⌜ r ≡ settled table context due ⌝ }
 {
     match due {
-        Due::Steps(event) => step(context, event),
+        Due::Steps(event) => step(table, context, event),
         Due::Ignored(reason) => ignore(context, reason),
         Due::Reported(cause) => report(context, cause),
         Due::Refused => refuse(context),

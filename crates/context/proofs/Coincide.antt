@@ -5,6 +5,8 @@ use mathlib.Core.Bool.{Bool}
 use Rattle.octets.proofs.Coincide.{coincide}
 use Rattle.codes.specs.declared.state.State.{State}
 use Rattle.codes.specs.declared.attributes.Parameters.{Parameters}
+use Rattle.context.specs.declared.Remembered.{Remembered}
+use Rattle.context.specs.Remembered.{rememberedNumber, remembering, returning}
 use Rattle.context.specs.declared.Context.{Context}
 use Rattle.context.specs.States.{numberOf, flagOf}
 use Rattle.context.specs.Context.{startRow, entering, cleared}
@@ -23,3 +25,12 @@ entering-coincides s p a b = coincide (entering s p) a b
 
 pub expected-flag-coincides : (x : Context) (a b : Bool) → a ≡ flagOf x → b ≡ flagOf x → a ≡ b
 expected-flag-coincides x a b = coincide (flagOf x) a b
+
+pub remembered-number-coincides : (remembered : Remembered) (a b : ℕ) → a ≡ rememberedNumber remembered → b ≡ rememberedNumber remembered → a ≡ b
+remembered-number-coincides remembered a b = coincide (rememberedNumber remembered) a b
+
+pub remembering-coincides : (state : State) (a b : Remembered) → a ≡ remembering state → b ≡ remembering state → a ≡ b
+remembering-coincides state a b = coincide (remembering state) a b
+
+pub returning-coincides : (remembered : Remembered) (here : State) (a b : State) → a ≡ returning remembered here → b ≡ returning remembered here → a ≡ b
+returning-coincides remembered here a b = coincide (returning remembered here) a b

@@ -5,6 +5,8 @@ use mathlib.Core.Bool.{Bool, true, _&&_}
 use Rattle.codes.specs.declared.state.State.{State}
 use Rattle.codes.specs.declared.state.State.the-variants.{U0, U0p, U1, U2, U3, U4, U5, U6}
 use Rattle.codes.specs.declared.attributes.Parameters.{Parameters}
+use Rattle.context.specs.declared.Remembered.{Remembered}
+use Rattle.context.specs.declared.Remembered.the-variants as Remembered
 
 -- The test holds in every state.
 abbrev pub inStates : (State → Bool) → Bool
@@ -38,3 +40,12 @@ at-parameters P e p =
     (at-bool (λ c. either (λ d. P (parameters (p .orig) (p .comm) c d)))
     (at-bool (λ b. either (λ c. either (λ d. P (parameters (p .orig) b c d))))
     (at-bool (λ a. either (λ b. either (λ c. either (λ d. P (parameters a b c d))))) e (p .orig)) (p .comm)) (p .datt)) (p .uatt)
+
+-- The test holds of all that may be remembered.
+abbrev pub ofRemembered : (Remembered → Bool) → Bool
+ofRemembered P = P Remembered.Nothing && (P Remembered.U1 && P Remembered.U2)
+
+pub at-remembered : (P : Remembered → Bool) → ofRemembered P ≡ true → (r : Remembered) → P r ≡ true
+at-remembered P e Remembered.Nothing = and-left (P Remembered.Nothing) _ e
+at-remembered P e Remembered.U1 = and-left (P Remembered.U1) _ (and-right (P Remembered.Nothing) _ e)
+at-remembered P e Remembered.U2 = and-right (P Remembered.U1) _ (and-right (P Remembered.Nothing) _ e)

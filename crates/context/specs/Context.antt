@@ -9,6 +9,7 @@ use Rattle.codes.specs.declared.attributes.Parameters.{Parameters}
 use Rattle.message.specs.declared.Reference.{Reference}
 use Rattle.timer.specs.Timers.{noTimers}
 use Rattle.context.specs.declared.Context.{Context}
+use Rattle.context.specs.declared.Remembered.the-variants.{Nothing}
 use Rattle.context.specs.States.{numberOf}
 
 abbrev T : Bool
@@ -49,7 +50,7 @@ startRow s = startRowAt (numberOf s)
 unfoldable pub entering : State → Parameters → Parameters
 entering s before = startRow s
 
--- Cleared means U0, parameters false, no timer, value 0, reference zero.
+-- Cleared means U0, parameters false, no timer, value 0, reference zero; and nothing remembered.
 unfoldable pub cleared : Context
 cleared = record {
   state = U0;
@@ -57,4 +58,5 @@ cleared = record {
   timers = noTimers;
   value = 0;
   reference = record { first = 0; second = 0; third = 0; fourth = 0 };
+  remembered = Nothing;
 }

@@ -1,3 +1,4 @@
 pub mod States
+pub mod Remembered
 pub mod Context
 pub mod Running

@@ -1,7 +1,9 @@
-// The context of a call: its state, parameters, timers, transaction value and reference; what a state starts with, and which flag is expected.
+// The context of a call: its state, parameters, timers, transaction value and reference, and where a termination was asked from; what a
+// state starts with, and which flag is expected.
 ghost use mathlib.Core.Path.{_≡_};
 ghost use Rattle.context.specs.States.{numberOf, flagOf};
 ghost use Rattle.context.specs.Context.{startRow, entering, cleared};
+ghost use Rattle.context.specs.Remembered.{rememberedNumber, remembering, returning};
 use codes::attributes::Parameters;
 use codes::state::State;
 use message::Reference;
@@ -13,6 +15,14 @@ pub struct Context {
     pub timers: Timers,
     pub value: u8,
     pub reference: Reference,
+    pub remembered: Remembered,
+}
+
+// Where a termination was asked from: nothing is remembered, or one of the states that it can be asked from.
+pub enum Remembered {
+    Nothing,
+    U1,
+    U2,
 }
 
 // What each state starts with, 6.1.2.1.2 to 6.1.2.1.9: ORIG, COMM, D-ATT, U-ATT.
@@ -28,7 +38,7 @@ pub const START_ROWS: [[bool; 4]; 8] = [
 ];
 
 impl Context {
-    // U0, parameters false, no timer, value 0, reference zero.
+    // U0, parameters false, no timer, value 0, reference zero, nothing remembered.
     pub fn cleared() -> Context
         ensures { λ r. ⌜ r ≡ cleared ⌝ }
     {
@@ -53,7 +63,46 @@ impl Context {
                 third: 0,
                 fourth: 0,
             },
+            remembered: Remembered::Nothing,
         }
+    }
+}
+
+// What is remembered, as a number: that of the state, and 0 for nothing.
+pub fn remembered_number(remembered: Remembered) -> u8
+    ensures { λ r. ⌜ r ≡ rememberedNumber remembered ⌝ }
+{
+    match remembered {
+        Remembered::Nothing => 0,
+        Remembered::U1 => 2,
+        Remembered::U2 => 3,
+    }
+}
+
+// What is remembered where a termination is asked from a state.
+pub fn remembering(state: State) -> Remembered
+    ensures { λ r. ⌜ r ≡ remembering state ⌝ }
+{
+    match state {
+        State::U0 => Remembered::Nothing,
+        State::U0p => Remembered::Nothing,
+        State::U1 => Remembered::U1,
+        State::U2 => Remembered::U2,
+        State::U3 => Remembered::Nothing,
+        State::U4 => Remembered::Nothing,
+        State::U5 => Remembered::Nothing,
+        State::U6 => Remembered::Nothing,
+    }
+}
+
+// The state that is returned to; where nothing is remembered, the one that is.
+pub fn returning(remembered: Remembered, here: State) -> State
+    ensures { λ r. ⌜ r ≡ returning remembered here ⌝ }
+{
+    match remembered {
+        Remembered::Nothing => here,
+        Remembered::U1 => State::U1,
+        Remembered::U2 => State::U2,
     }
 }
 

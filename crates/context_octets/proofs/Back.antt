@@ -2,7 +2,7 @@
 use Prim.Native.Nat.{ℕ, _+_, _*_, _/_, _%_, _≤_, _<_}
 use mathlib.Core.Path.{_≡_, refl, sym, ap, subst, _∙_}
 use mathlib.Core.List.{List, [], _∷_}
-use mathlib.Core.Bool.{Bool, true, false, _&&_}
+use mathlib.Core.Bool.{Bool, true, false, _&&_, _||_}
 use native.Mathlib.Omega.{arith}
 use lib.Dec.{eqb, leb}
 use lib.ListN.{length, getD}
@@ -13,13 +13,16 @@ use Rattle.codes.specs.declared.state.State.the-variants.{U0, U0p, U1, U2, U3, 
 use Rattle.codes.specs.declared.attributes.Parameters.{Parameters}
 use Rattle.timer.specs.declared.Timers.{Timers}
 use Rattle.context.specs.declared.Context.{Context}
+use Rattle.context.specs.declared.Remembered.{Remembered}
+use Rattle.context.specs.declared.Remembered.the-variants as Remembered
 use Rattle.context.specs.States.{numberOf}
+use Rattle.context.specs.Remembered.{rememberedNumber}
 use Rattle.context.proofs.Whole.{and-left, and-right}
 use Rattle.context_octets.specs.declared.Numbered.{Numbered}
 use Rattle.context_octets.specs.declared.Numbered.the-variants.{Is as IsState, NoState}
 use Rattle.context_octets.specs.declared.Reading.{Reading}
 use Rattle.context_octets.specs.declared.Reading.the-variants.{Is, NoContext}
-use Rattle.context_octets.specs.Octets.{bit, contextOf, fourNumber, isKept, octetsOf, onState, parametersAt, stateAt, timersAt, withState}
+use Rattle.context_octets.specs.Octets.{bit, contextOf, fourNumber, isKept, isRemembered, rememberedAt, octetsOf, onState, parametersAt, stateAt, timersAt, withState}
 use Rattle.octets.proofs.Listed.{all-listed, listed}
 
 -- ---- what is written is read back
@@ -55,6 +58,15 @@ bits false false true false = record { small = refl; eight = refl; four = refl; 
 bits false false false true = record { small = refl; eight = refl; four = refl; two = refl; one = refl }
 bits false false false false = record { small = refl; eight = refl; four = refl; two = refl; one = refl }
 
+-- What is remembered, by its number.
+record Minded (n : ℕ) (r : Remembered) : Type 0 where
+  one-of : isRemembered n ≡ true
+  back : rememberedAt n ≡ r
+
+minded : (r : Remembered) → Minded (rememberedNumber r) r
+unfolding rememberedNumber isRemembered rememberedAt
+minded = elim [ Remembered.Nothing ↦ record { one-of = refl; back = refl } | Remembered.U1 ↦ record { one-of = refl; back = refl } | Remembered.U2 ↦ record { one-of = refl; back = refl } ]
+
 pub read-written : (x : Context) → contextOf (octetsOf x) ≡ Is x
 unfolding contextOf isKept octetsOf withState parametersAt timersAt
 read-written x =
@@ -62,7 +74,8 @@ read-written x =
     let t : Timers = x .timers in
     let b = bits (p .orig) (p .comm) (p .datt) (p .uatt) in
     let c = bits (t .mmest) (t .term) (t .connreq) (t .nochannel) in
-    rw (b .small, c .small, state-back (x .state), b .eight, b .four, b .two, b .one, c .eight, c .four, c .two, c .one)
+    let m = minded (x .remembered) in
+    rw (b .small, c .small, m .one-of, state-back (x .state), m .back, b .eight, b .four, b .two, b .one, c .eight, c .four, c .two, c .one)
 
 -- ---- what is read is written back
 
@@ -98,11 +111,24 @@ state-from n =
     at-cond (From n) (eqb n 6) _ _ (λ e. sym (eqb-true n 6 e)) λ e.
     at-cond (From n) (eqb n 7) _ _ (λ e. sym (eqb-true n 7 e)) λ e. tt
 
+-- So is what is remembered.
+one-left : (b : Bool) → (b || false) ≡ true → b ≡ true
+one-left true e = refl
+one-left false e = e
+
+minded-from : (n : ℕ) → isRemembered n ≡ true → rememberedNumber (rememberedAt n) ≡ n
+unfolding rememberedNumber isRemembered rememberedAt
+minded-from n e =
+    at-cond (λ (r : Remembered). rememberedNumber r ≡ n) (eqb n 2) Remembered.U1 _ (λ p. sym (eqb-true n 2 p)) λ p.
+    at-cond (λ (r : Remembered). rememberedNumber r ≡ n) (eqb n 3) Remembered.U2 _ (λ q. sym (eqb-true n 3 q)) λ q.
+    sym (eqb-true n 0 (one-left (eqb n 0) (rw (p, q) at e)))
+
 -- What kept octets are.
 record Kept (s : List ℕ) : Type 0 where
   parameters : getD s 1 0 ≤ 15
   timers : getD s 2 0 ≤ 15
-  zeros : listed 8 8 s ≡ 0 ∷ 0 ∷ 0 ∷ 0 ∷ 0 ∷ 0 ∷ 0 ∷ 0 ∷ []
+  remembered : isRemembered (getD s 8 0) ≡ true
+  zeros : listed 7 9 s ≡ 0 ∷ 0 ∷ 0 ∷ 0 ∷ 0 ∷ 0 ∷ 0 ∷ []
 
 is-zero : (n : ℕ) (b : Bool) → (eqb n 0 && b) ≡ true → n ≡ 0
 is-zero n b e = eqb-true n 0 (and-left (eqb n 0) b e)
@@ -113,16 +139,16 @@ kept s e =
     let low : (leb (getD s 2 0) 15 && _) ≡ true = and-right (leb (getD s 1 0) 15) _ e in
     let rest = and-right (leb (getD s 2 0) 15) _ low in
     let a = and-left _ (eqb (getD s 12 0) 0 && (eqb (getD s 13 0) 0 && (eqb (getD s 14 0) 0 && eqb (getD s 15 0) 0))) rest in
-    let b = and-right (eqb (getD s 8 0) 0 && (eqb (getD s 9 0) 0 && (eqb (getD s 10 0) 0 && eqb (getD s 11 0) 0))) _ rest in
-    let a1 = and-right (eqb (getD s 8 0) 0) _ a in
+    let b = and-right (isRemembered (getD s 8 0) && (eqb (getD s 9 0) 0 && (eqb (getD s 10 0) 0 && eqb (getD s 11 0) 0))) _ rest in
+    let a1 = and-right (isRemembered (getD s 8 0)) _ a in
     let a2 = and-right (eqb (getD s 9 0) 0) _ a1 in
     let b1 = and-right (eqb (getD s 12 0) 0) _ b in
     let b2 = and-right (eqb (getD s 13 0) 0) _ b1 in
     record {
       parameters = leb-true (getD s 1 0) 15 (and-left (leb (getD s 1 0) 15) _ e);
       timers = leb-true (getD s 2 0) 15 (and-left (leb (getD s 2 0) 15) _ low);
+      remembered = and-left (isRemembered (getD s 8 0)) _ a;
       zeros = rw (
-        is-zero (getD s 8 0) _ a,
         is-zero (getD s 9 0) _ a1,
         is-zero (getD s 10 0) _ a2,
         eqb-true (getD s 11 0) 0 (and-right (eqb (getD s 10 0) 0) _ a2),
@@ -141,7 +167,7 @@ Written s NoContext = Unit
 state-written : (s : List ℕ) → length s ≡ 16 → Kept s → (t : Numbered) → From (getD s 0 0) t → Written s (onState s t)
 unfolding octetsOf withState parametersAt timersAt
 state-written s l k (IsState state) f =
-    rw (f, four-back (getD s 1 0) (k .parameters), four-back (getD s 2 0) (k .timers), ← k .zeros) (sym (all-listed 16 s l))
+    rw (f, four-back (getD s 1 0) (k .parameters), four-back (getD s 2 0) (k .timers), minded-from (getD s 8 0) (k .remembered), ← k .zeros) (sym (all-listed 16 s l))
 state-written s l k NoState f = tt
 
 pub written-read : (s : List ℕ) → length s ≡ 16 → Written s (contextOf s)

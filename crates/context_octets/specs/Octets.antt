@@ -1,7 +1,8 @@
--- The sixteen octets of a context: 0 state, 1 parameters, 2 timers that run, 3 transaction value, 4 to 7 call reference, 8 to 15 zero.
+-- The sixteen octets of a context: 0 state, 1 parameters, 2 timers that run, 3 transaction value, 4 to 7 call reference, 8 what is remembered (the state's number, 0 for
+-- nothing), 9 to 15 zero.
 use Prim.Native.Nat.{ℕ, _+_, _*_, _/_, _%_}
 use mathlib.Core.List.{List, [], _∷_}
-use mathlib.Core.Bool.{Bool, cond, _&&_}
+use mathlib.Core.Bool.{Bool, cond, _&&_, _||_}
 use lib.Dec.{eqb, leb}
 use lib.ListN.{getD}
 use Rattle.octets.specs.Rows.{rows}
@@ -11,7 +12,10 @@ use Rattle.codes.specs.declared.attributes.Parameters.{Parameters}
 use Rattle.message.specs.declared.Reference.{Reference}
 use Rattle.timer.specs.declared.Timers.{Timers}
 use Rattle.context.specs.declared.Context.{Context}
+use Rattle.context.specs.declared.Remembered.{Remembered}
+use Rattle.context.specs.declared.Remembered.the-variants as Remembered
 use Rattle.context.specs.States.{numberOf}
+use Rattle.context.specs.Remembered.{rememberedNumber}
 use Rattle.context_octets.specs.declared.Numbered.{Numbered}
 use Rattle.context_octets.specs.declared.Numbered.the-variants.{Is as IsState, NoState}
 use Rattle.context_octets.specs.declared.Reading.{Reading}
@@ -48,12 +52,22 @@ parametersAt n = record { orig = eqb (n / 8 % 2) 1; comm = eqb (n / 4 % 2) 1; da
 unfoldable pub timersAt : ℕ → Timers
 timersAt n = record { mmest = eqb (n / 8 % 2) 1; term = eqb (n / 4 % 2) 1; connreq = eqb (n / 2 % 2) 1; nochannel = eqb (n % 2) 1 }
 
--- Parameters and timers are numbers below 16, and the last eight octets are zero.
+-- What is remembered: 0 nothing, 2 U1, 3 U2. Any other number is none of these.
+abbrev pub remembereds : List (ℕ × Remembered)
+remembereds = (2, Remembered.U1) ∷ (3, Remembered.U2) ∷ []
+
+unfoldable pub rememberedAt : ℕ → Remembered
+rememberedAt number = rows number Remembered.Nothing remembereds
+
+unfoldable pub isRemembered : ℕ → Bool
+isRemembered number = eqb number 0 || (eqb number 2 || eqb number 3)
+
+-- Parameters and timers are numbers below 16, something or nothing is remembered, and the last seven octets are zero.
 unfoldable pub isKept : List ℕ → Bool
 isKept s =
     leb (getD s 1 0) 15 &&
     (leb (getD s 2 0) 15 &&
-    ((eqb (getD s 8 0) 0 && (eqb (getD s 9 0) 0 && (eqb (getD s 10 0) 0 && eqb (getD s 11 0) 0))) &&
+    ((isRemembered (getD s 8 0) && (eqb (getD s 9 0) 0 && (eqb (getD s 10 0) 0 && eqb (getD s 11 0) 0))) &&
     (eqb (getD s 12 0) 0 && (eqb (getD s 13 0) 0 && (eqb (getD s 14 0) 0 && eqb (getD s 15 0) 0)))))
 
 -- The context of a state, and of the octets behind the state's.
@@ -64,6 +78,7 @@ withState s state = record {
   timers = timersAt (getD s 2 0);
   value = getD s 3 0;
   reference = record { first = getD s 4 0; second = getD s 5 0; third = getD s 6 0; fourth = getD s 7 0 };
+  remembered = rememberedAt (getD s 8 0);
 }
 
 abbrev pub onState : List ℕ → Numbered → Reading
@@ -85,5 +100,6 @@ octetsOf x =
     fourNumber (t .mmest) (t .term) (t .connreq) (t .nochannel) ∷
     x .value ∷
     r .first ∷ r .second ∷ r .third ∷ r .fourth ∷
-    0 ∷ 0 ∷ 0 ∷ 0 ∷ 0 ∷ 0 ∷ 0 ∷ 0 ∷
+    rememberedNumber (x .remembered) ∷
+    0 ∷ 0 ∷ 0 ∷ 0 ∷ 0 ∷ 0 ∷ 0 ∷
     []

@@ -1,9 +1,10 @@
 // A context as the sixteen octets that a host in C keeps of it: read, where they are a context, and written.
 ghost use mathlib.Core.Path.{_≡_};
-ghost use Rattle.context_octets.specs.Octets.{contextOf, fourNumber, isKept, octetsOf, parametersAt, stateAt, timersAt, withState};
+ghost use Rattle.context_octets.specs.Octets.{contextOf, fourNumber, isKept, isRemembered, octetsOf, parametersAt, rememberedAt, stateAt, timersAt, withState};
 use codes::attributes::Parameters;
 use codes::state::State;
 use context::Context;
+use context::Remembered;
 use message::Reference;
 use timer::Timers;
 
@@ -67,11 +68,30 @@ fn four_number(eight: bool, four: bool, two: bool, one: bool) -> u8
     8 * (eight as u8) + 4 * (four as u8) + 2 * (two as u8) + (one as u8)
 }
 
-// Whether parameters and timers are below 16, and the last eight octets zero.
+// What is remembered, by its number.
+fn remembered_at(number: u8) -> Remembered
+    ensures { λ r. ⌜ r ≡ rememberedAt number ⌝ }
+{
+    match number {
+        2 => Remembered::U1,
+        3 => Remembered::U2,
+        _ => Remembered::Nothing,
+    }
+}
+
+// Whether a number says what is remembered.
+fn is_remembered(number: u8) -> bool
+    ensures { λ r. ⌜ r ≡ isRemembered number ⌝ }
+{
+    (number == 0) | ((number == 2) | (number == 3))
+}
+
+// Whether parameters and timers are below 16, something or nothing is remembered, and the last seven octets are zero.
 fn is_kept(octets: &[u8; 16]) -> bool
     ensures { λ r. ⌜ r ≡ isKept (now (octets .entry)) ⌝ }
 {
-    let first = (octets[8] == 0) & ((octets[9] == 0) & ((octets[10] == 0) & (octets[11] == 0)));
+    let noted = is_remembered(octets[8]);
+    let first = noted & ((octets[9] == 0) & ((octets[10] == 0) & (octets[11] == 0)));
     let last = (octets[12] == 0) & ((octets[13] == 0) & ((octets[14] == 0) & (octets[15] == 0)));
     (octets[1] <= 15) & ((octets[2] <= 15) & (first & last))
 }
@@ -88,12 +108,14 @@ fn with_state(octets: &[u8; 16], state: State) -> Context
         third: octets[6],
         fourth: octets[7],
     };
+    let remembered = remembered_at(octets[8]);
     Context {
         state,
         parameters,
         timers,
         value: octets[3],
         reference,
+        remembered,
     }
 }
 
@@ -121,6 +143,8 @@ pub fn write(context: Context, octets: &mut [u8; 16])
     let number = context::state_number(state) as u8;
     let parameters = four_number(set.orig, set.comm, set.datt, set.uatt);
     let timers = four_number(run.mmest, run.term, run.connreq, run.nochannel);
+    let remembered = context.remembered;
+    let noted = context::remembered_number(remembered);
     *octets = [
         number,
         parameters,
@@ -130,7 +154,7 @@ pub fn write(context: Context, octets: &mut [u8; 16])
         call.second,
         call.third,
         call.fourth,
-        0,
+        noted,
         0,
         0,
         0,

@@ -4,7 +4,7 @@ use mathlib.Core.Path.{_≡_}
 use mathlib.Core.List.{List}
 use lib.Seq.{sets}
 use Rattle.octets.proofs.Coincide.{coincide}
-use Rattle.version.specs.declared.Table.the-variants.{First}
+use Rattle.version.specs.Version.{newest}
 use Rattle.log_number.specs.Number.{numberAt}
 use Rattle.log.specs.Layout.{Meant, versionBytes}
 use Rattle.recorder.specs.Recording.{added, afterwards, beginAnswer, recordAnswer}
@@ -21,7 +21,7 @@ both x a b s e f p q = (coincide x a b (p .0) (q .0), coincide s e f (p .1) (q .
 
 pub begin-log-coincides : (log : List ℕ) (a b : Used) (e f : List ℕ) → LogBegun log a e → LogBegun log b f → (a ≡ b) × (e ≡ f)
 begin-log-coincides log a b e f =
-    both (usedOf 0 (beginAnswer First log)) a b (afterwards log 0 (versionBytes First) (beginAnswer First log)) e f
+    both (usedOf 0 (beginAnswer newest log)) a b (afterwards log 0 (versionBytes newest) (beginAnswer newest log)) e f
 
 module _ (log message context reply : List ℕ) (used delta : ℕ) (event : Event) (step : Step) where
   abbrev told : Meant
@@ -29,7 +29,7 @@ module _ (log message context reply : List ℕ) (used delta : ℕ) (event : Even
 
   pub record-coincides : (a b : Used) (e f : List ℕ) → EntryRecorded told used log a e → EntryRecorded told used log b f → (a ≡ b) × (e ≡ f)
   record-coincides a b e f =
-      both (usedOf used (recordAnswer First log used told)) a b (afterwards log used (added First used told) (recordAnswer First log used told)) e f
+      both (usedOf used (recordAnswer newest log used told)) a b (afterwards log used (added newest used told) (recordAnswer newest log used told)) e f
 
 pub read-number-coincides : (s : List ℕ) (at : ℕ) (a b : NumberRead) → a ≡ numberShown (numberAt s at) → b ≡ numberShown (numberAt s at) → a ≡ b
 read-number-coincides s at = coincide (numberShown (numberAt s at))

@@ -2,15 +2,20 @@
 ghost use mathlib.Core.Path.{_≡_};
 ghost use mathlib.Core.Bool.{cond};
 ghost use Rattle.codes.specs.declared.state.State.the-variants.{U0, U0p, U1, U2, U3, U4, U5, U6};
-ghost use Rattle.transitions.specs.declared.Decision.the-variants.{NoStep};
-ghost use Rattle.transitions.specs.Table.{stepTable, happenedIn, decidedOf};
+ghost use Rattle.transitions.specs.declared.Decision.the-variants.{Take, NoStep};
+ghost use Rattle.transitions.specs.declared.Send.the-variants.{TerminationRequest};
+ghost use Rattle.transitions.specs.declared.Stores.the-variants as Stores;
+ghost use Rattle.timer.specs.declared.Timer.the-variants.{MmEst, Term};
+ghost use Rattle.transitions.specs.Table.{asking, stepTable, happenedIn, decidedOf};
 use codes::state::State;
 use context::Context;
 use timer::Timer;
 use transitions::Decision;
+use transitions::Memory;
 use transitions::Send;
 use transitions::Stores;
 use transitions::Taken;
+use version::Table;
 
 // 1, set-up request.
 const SET_UP: Decision = Decision::Take(Taken {
@@ -20,6 +25,7 @@ const SET_UP: Decision = Decision::Take(Taken {
     stops: Timer::NoTimer,
     sets: Timer::MmEst,
     stores: Stores::ValueAndReference,
+    memory: Memory::Keep,
 });
 
 // 2, immediate set-up request.
@@ -30,6 +36,7 @@ const IMMEDIATE_SET_UP: Decision = Decision::Take(Taken {
     stops: Timer::NoTimer,
     sets: Timer::MmEst,
     stores: Stores::ValueAndReference,
+    memory: Memory::Keep,
 });
 
 // 6, MM connection established.
@@ -40,6 +47,7 @@ const ESTABLISHED: Decision = Decision::Take(Taken {
     stops: Timer::MmEst,
     sets: Timer::NoTimer,
     stores: Stores::Nothing,
+    memory: Memory::Keep,
 });
 
 // 10, broadcast notified.
@@ -50,6 +58,7 @@ const NOTIFIED: Decision = Decision::Take(Taken {
     stops: Timer::NoTimer,
     sets: Timer::NoTimer,
     stores: Stores::ValueAndReference,
+    memory: Memory::Keep,
 });
 
 // 3, join.
@@ -60,6 +69,7 @@ const JOIN: Decision = Decision::Take(Taken {
     stops: Timer::NoTimer,
     sets: Timer::ConnReq,
     stores: Stores::Nothing,
+    memory: Memory::Keep,
 });
 
 // 11, group receive mode entered.
@@ -70,6 +80,7 @@ const RECEIVE_MODE_ENTERED: Decision = Decision::Take(Taken {
     stops: Timer::ConnReq,
     sets: Timer::NoTimer,
     stores: Stores::Nothing,
+    memory: Memory::Keep,
 });
 
 // 12, no channel: T_no channel is set unless running.
@@ -80,6 +91,7 @@ const NO_CHANNEL: Decision = Decision::Take(Taken {
     stops: Timer::NoTimer,
     sets: Timer::NoChannel,
     stores: Stores::Nothing,
+    memory: Memory::Keep,
 });
 
 // The same while it runs.
@@ -90,6 +102,7 @@ const STILL_NO_CHANNEL: Decision = Decision::Take(Taken {
     stops: Timer::NoTimer,
     sets: Timer::NoTimer,
     stores: Stores::Nothing,
+    memory: Memory::Keep,
 });
 
 // 13, channel available.
@@ -100,16 +113,7 @@ const CHANNEL_AVAILABLE: Decision = Decision::Take(Taken {
     stops: Timer::NoChannel,
     sets: Timer::NoTimer,
     stores: Stores::Nothing,
-});
-
-// 4, terminate.
-const TERMINATE: Decision = Decision::Take(Taken {
-    next: State::U5,
-    actions: 0,
-    sends: Send::TerminationRequest,
-    stops: Timer::MmEst,
-    sets: Timer::Term,
-    stores: Stores::Nothing,
+    memory: Memory::Keep,
 });
 
 // The rows that lead to U0 differ by their actions: none, ..
@@ -120,6 +124,7 @@ const ENDS: Decision = Decision::Take(Taken {
     stops: Timer::NoTimer,
     sets: Timer::NoTimer,
     stores: Stores::Nothing,
+    memory: Memory::Keep,
 });
 
 // .. 8 abort, ..
@@ -130,6 +135,7 @@ const ENDS_ABORTING: Decision = Decision::Take(Taken {
     stops: Timer::NoTimer,
     sets: Timer::NoTimer,
     stores: Stores::Nothing,
+    memory: Memory::Keep,
 });
 
 // .. 16 release, ..
@@ -140,6 +146,7 @@ const ENDS_RELEASING: Decision = Decision::Take(Taken {
     stops: Timer::NoTimer,
     sets: Timer::NoTimer,
     stores: Stores::Nothing,
+    memory: Memory::Keep,
 });
 
 // .. 1 inform higher layers and 8 abort.
@@ -150,7 +157,37 @@ const ENDS_INFORMING_ABORTING: Decision = Decision::Take(Taken {
     stops: Timer::NoTimer,
     sets: Timer::NoTimer,
     stores: Stores::Nothing,
+    memory: Memory::Keep,
 });
+
+// What a terminate request remembers: from the second table on the state that it is asked from.
+fn asking(table: Table) -> Memory
+    ensures { λ r. ⌜ r ≡ asking table ⌝ }
+{
+    match table {
+        Table::First => Memory::Keep,
+        Table::Second => Memory::Remember,
+    }
+}
+
+// 4, terminate: where ORIG is true.
+fn terminated(table: Table, orig: bool) -> Decision
+    ensures { λ r. ⌜ r ≡ cond orig (Take (record { next = U5; actions = 0; sends = TerminationRequest; stops = MmEst; sets = Term; stores = Stores.Nothing; memory = asking table })) NoStep ⌝ }
+{
+    let memory = asking(table);
+    if orig {
+        return Decision::Take(Taken {
+            next: State::U5,
+            actions: 0,
+            sends: Send::TerminationRequest,
+            stops: Timer::MmEst,
+            sets: Timer::Term,
+            stores: Stores::Nothing,
+            memory,
+        });
+    }
+    Decision::NoStep
+}
 
 // A row that holds only where something is true.
 fn where_true(holds: bool, taken: Decision) -> Decision
@@ -163,8 +200,8 @@ fn where_true(holds: bool, taken: Decision) -> Decision
 }
 
 // No channel in U6.
-fn no_channel_in_u6(context: Context) -> Decision
-    ensures { λ r. ⌜ r ≡ happenedIn stepTable U6 context 12 ⌝ }
+fn no_channel_in_u6(table: Table, context: Context) -> Decision
+    ensures { λ r. ⌜ r ≡ happenedIn (stepTable table) U6 context 12 ⌝ }
 {
     let timers = context.timers;
     if timers.nochannel {
@@ -173,8 +210,8 @@ fn no_channel_in_u6(context: Context) -> Decision
     NO_CHANNEL
 }
 
-fn in_u0(context: Context, number: u8) -> Decision
-    ensures { λ r. ⌜ r ≡ happenedIn stepTable U0 context number ⌝ }
+fn in_u0(table: Table, context: Context, number: u8) -> Decision
+    ensures { λ r. ⌜ r ≡ happenedIn (stepTable table) U0 context number ⌝ }
 {
     match number {
         1 => SET_UP,
@@ -184,8 +221,8 @@ fn in_u0(context: Context, number: u8) -> Decision
     }
 }
 
-fn in_u0p(context: Context, number: u8) -> Decision
-    ensures { λ r. ⌜ r ≡ happenedIn stepTable U0p context number ⌝ }
+fn in_u0p(table: Table, context: Context, number: u8) -> Decision
+    ensures { λ r. ⌜ r ≡ happenedIn (stepTable table) U0p context number ⌝ }
 {
     match number {
         6 => ESTABLISHED,
@@ -198,8 +235,8 @@ fn in_u0p(context: Context, number: u8) -> Decision
     }
 }
 
-fn in_u1(context: Context, number: u8) -> Decision
-    ensures { λ r. ⌜ r ≡ happenedIn stepTable U1 context number ⌝ }
+fn in_u1(table: Table, context: Context, number: u8) -> Decision
+    ensures { λ r. ⌜ r ≡ happenedIn (stepTable table) U1 context number ⌝ }
 {
     let parameters = context.parameters;
     let timers = context.timers;
@@ -207,19 +244,19 @@ fn in_u1(context: Context, number: u8) -> Decision
         7 => where_true(timers.mmest, ENDS),
         14 => where_true(timers.mmest, ENDS_ABORTING),
         8 => ENDS_ABORTING,
-        4 => where_true(parameters.orig, TERMINATE),
+        4 => terminated(table, parameters.orig),
         5 => ENDS_RELEASING,
         9 => ENDS_INFORMING_ABORTING,
         0..=3 | 6..=6 | 10..=13 | 15..=255 => Decision::NoStep,
     }
 }
 
-fn in_u2(context: Context, number: u8) -> Decision
-    ensures { λ r. ⌜ r ≡ happenedIn stepTable U2 context number ⌝ }
+fn in_u2(table: Table, context: Context, number: u8) -> Decision
+    ensures { λ r. ⌜ r ≡ happenedIn (stepTable table) U2 context number ⌝ }
 {
     let parameters = context.parameters;
     match number {
-        4 => where_true(parameters.orig, TERMINATE),
+        4 => terminated(table, parameters.orig),
         5 => ENDS_RELEASING,
         9 => ENDS_INFORMING_ABORTING,
         8 => ENDS_INFORMING_ABORTING,
@@ -227,8 +264,8 @@ fn in_u2(context: Context, number: u8) -> Decision
     }
 }
 
-fn in_u3(context: Context, number: u8) -> Decision
-    ensures { λ r. ⌜ r ≡ happenedIn stepTable U3 context number ⌝ }
+fn in_u3(table: Table, context: Context, number: u8) -> Decision
+    ensures { λ r. ⌜ r ≡ happenedIn (stepTable table) U3 context number ⌝ }
 {
     match number {
         3 => JOIN,
@@ -239,8 +276,8 @@ fn in_u3(context: Context, number: u8) -> Decision
     }
 }
 
-fn in_u4(context: Context, number: u8) -> Decision
-    ensures { λ r. ⌜ r ≡ happenedIn stepTable U4 context number ⌝ }
+fn in_u4(table: Table, context: Context, number: u8) -> Decision
+    ensures { λ r. ⌜ r ≡ happenedIn (stepTable table) U4 context number ⌝ }
 {
     match number {
         11 => RECEIVE_MODE_ENTERED,
@@ -252,8 +289,8 @@ fn in_u4(context: Context, number: u8) -> Decision
     }
 }
 
-fn in_u5(context: Context, number: u8) -> Decision
-    ensures { λ r. ⌜ r ≡ happenedIn stepTable U5 context number ⌝ }
+fn in_u5(table: Table, context: Context, number: u8) -> Decision
+    ensures { λ r. ⌜ r ≡ happenedIn (stepTable table) U5 context number ⌝ }
 {
     let timers = context.timers;
     match number {
@@ -265,12 +302,12 @@ fn in_u5(context: Context, number: u8) -> Decision
     }
 }
 
-fn in_u6(context: Context, number: u8) -> Decision
-    ensures { λ r. ⌜ r ≡ happenedIn stepTable U6 context number ⌝ }
+fn in_u6(table: Table, context: Context, number: u8) -> Decision
+    ensures { λ r. ⌜ r ≡ happenedIn (stepTable table) U6 context number ⌝ }
 {
     let timers = context.timers;
     match number {
-        12 => no_channel_in_u6(context),
+        12 => no_channel_in_u6(table, context),
         13 => CHANNEL_AVAILABLE,
         17 => where_true(timers.nochannel, ENDS_INFORMING_ABORTING),
         5 => ENDS_RELEASING,
@@ -281,28 +318,28 @@ fn in_u6(context: Context, number: u8) -> Decision
 }
 
 // An event that is no message, in the context's state.
-fn happened(context: Context, number: u8) -> Decision
-    ensures { λ r. ⌜ r ≡ happenedIn stepTable (context .state) context number ⌝ }
+fn happened(table: Table, context: Context, number: u8) -> Decision
+    ensures { λ r. ⌜ r ≡ happenedIn (stepTable table) (context .state) context number ⌝ }
 {
     let state = context.state;
     match state {
-        State::U0 => in_u0(context, number),
-        State::U0p => in_u0p(context, number),
-        State::U1 => in_u1(context, number),
-        State::U2 => in_u2(context, number),
-        State::U3 => in_u3(context, number),
-        State::U4 => in_u4(context, number),
-        State::U5 => in_u5(context, number),
-        State::U6 => in_u6(context, number),
+        State::U0 => in_u0(table, context, number),
+        State::U0p => in_u0p(table, context, number),
+        State::U1 => in_u1(table, context, number),
+        State::U2 => in_u2(table, context, number),
+        State::U3 => in_u3(table, context, number),
+        State::U4 => in_u4(table, context, number),
+        State::U5 => in_u5(table, context, number),
+        State::U6 => in_u6(table, context, number),
     }
 }
 
 // What the table says in the context's state.
-pub fn decide(context: Context, number: u8, code: u8) -> Decision
-    ensures { λ r. ⌜ r ≡ decidedOf context number code ⌝ }
+pub fn decide(table: Table, context: Context, number: u8, code: u8) -> Decision
+    ensures { λ r. ⌜ r ≡ decidedOf table context number code ⌝ }
 {
     if number == 18 {
-        return message_rows::decide(context, code);
+        return message_rows::decide(table, context, code);
     }
-    happened(context, number)
+    happened(table, context, number)
 }

@@ -3,9 +3,11 @@ use mathlib.Core.Path.{_≡_, refl}
 use mathlib.Core.Bool.{false}
 use Rattle.codes.specs.declared.state.State.{State}
 use Rattle.codes.specs.declared.attributes.Parameters.{Parameters}
+use Rattle.version.specs.declared.Table.{Table}
 use Rattle.fitness.specs.Fitness.{consistentBy}
-use Rattle.fitness.specs.First.{firstFitness, consistent}
+use Rattle.fitness.specs.Tables.{fitnessOf, consistent}
 
-pub by-two : (s : State) (p : Parameters) → consistent s p ≡ consistent s (record { orig = p .orig; comm = p .comm; datt = false; uatt = false })
-unfolding consistentBy firstFitness
-by-two s p = refl
+module _ (table : Table) where
+  pub by-two : (s : State) (p : Parameters) → consistent table s p ≡ consistent table s (record { orig = p .orig; comm = p .comm; datt = false; uatt = false })
+  unfolding consistentBy fitnessOf
+  by-two s p = refl

@@ -1,5 +1,5 @@
 -- What fitness says, by any descriptor: its parts, and that U0 is the cleared context.
-use mathlib.Core.Path.{_≡_}
+use mathlib.Core.Path.{_≡_, refl, sym}
 use mathlib.Core.Bool.{Bool, true, false, not, _&&_, _||_}
 use lib.Dec.{eqb, leb}
 use borrow.Author.Tests.{eqb-true, not-true}
@@ -7,11 +7,15 @@ use Rattle.codes.specs.declared.state.State.the-variants.{U0}
 use Rattle.codes.specs.declared.attributes.Parameters.{Parameters}
 use Rattle.message.specs.declared.Reference.{Reference}
 use Rattle.timer.specs.declared.Timers.{Timers}
+use Rattle.octets.proofs.Choice.{never}
 use Rattle.context.specs.declared.Context.{Context}
+use Rattle.context.specs.declared.Remembered.{Remembered}
+use Rattle.context.specs.declared.Remembered.the-variants.{Nothing, U1, U2}
+use Rattle.context.specs.Remembered.{isSomething}
 use Rattle.context.specs.States.{same}
 use Rattle.context.specs.Context.{cleared}
 use Rattle.context.proofs.Whole.{and-left, and-right, and-both, if-so}
-use Rattle.fitness.specs.Fitness.{Fitness, consistentBy, timersFitBy, isCleared, fitBy}
+use Rattle.fitness.specs.Fitness.{Fitness, consistentBy, timersFitBy, rememberedFitBy, isCleared, fitBy}
 
 -- The parts of fitness.
 module _ (d : Fitness) (x : Context) (fit : fitBy d x ≡ true) where
@@ -19,7 +23,7 @@ module _ (d : Fitness) (x : Context) (fit : fitBy d x ≡ true) where
   unfolding fitBy
   fit-consistent = and-left (consistentBy d (x .state) (x .parameters)) _ fit
 
-  behind : (leb (x .value) 6 && ((not (same (x .state) U0) || isCleared x) && timersFitBy d (x .state) (x .timers))) ≡ true
+  behind : (leb (x .value) 6 && ((not (same (x .state) U0) || isCleared x) && (timersFitBy d (x .state) (x .timers) && rememberedFitBy d (x .state) (x .remembered)))) ≡ true
   unfolding fitBy
   behind = and-right (consistentBy d (x .state) (x .parameters)) _ fit
 
@@ -29,17 +33,28 @@ module _ (d : Fitness) (x : Context) (fit : fitBy d x ≡ true) where
   pub fit-cleared : (not (same (x .state) U0) || isCleared x) ≡ true
   fit-cleared = and-left (not (same (x .state) U0) || isCleared x) _ (and-right (leb (x .value) 6) _ behind)
 
+  last : (timersFitBy d (x .state) (x .timers) && rememberedFitBy d (x .state) (x .remembered)) ≡ true
+  last = and-right (not (same (x .state) U0) || isCleared x) _ (and-right (leb (x .value) 6) _ behind)
+
   pub fit-timers : timersFitBy d (x .state) (x .timers) ≡ true
-  fit-timers = and-right (not (same (x .state) U0) || isCleared x) _ (and-right (leb (x .value) 6) _ behind)
+  fit-timers = and-left (timersFitBy d (x .state) (x .timers)) _ last
+
+  pub fit-remembered : rememberedFitBy d (x .state) (x .remembered) ≡ true
+  fit-remembered = and-right (timersFitBy d (x .state) (x .timers)) _ last
 
 -- And back.
 pub fit-made : (d : Fitness) (x : Context) → consistentBy d (x .state) (x .parameters) ≡ true → leb (x .value) 6 ≡ true → (not (same (x .state) U0) || isCleared x) ≡ true
-    → timersFitBy d (x .state) (x .timers) ≡ true → fitBy d x ≡ true
+    → timersFitBy d (x .state) (x .timers) ≡ true → rememberedFitBy d (x .state) (x .remembered) ≡ true → fitBy d x ≡ true
 unfolding fitBy
-fit-made d x a b c e = and-both _ _ a (and-both _ _ b (and-both _ _ c e))
+fit-made d x a b c e f = and-both _ _ a (and-both _ _ b (and-both _ _ c (and-both _ _ e f)))
 
 none : (b : Bool) → not b ≡ true → b ≡ false
 none b e = not-true b e
+
+nothing-remembered : (r : Remembered) → isSomething r ≡ false → r ≡ Nothing
+nothing-remembered Nothing e = refl
+nothing-remembered U1 e = never (sym e)
+nothing-remembered U2 e = never (sym e)
 
 -- A fit context in U0 is the cleared one.
 pub fit-u0 : (d : Fitness) (x : Context) → fitBy d x ≡ true → x .state ≡ U0 → x ≡ cleared
@@ -51,7 +66,9 @@ fit-u0 d x fit e =
     let q = and-right (not (x .parameters .orig) && (not (x .parameters .comm) && (not (x .parameters .datt) && not (x .parameters .uatt)))) _ all in
     let t = and-left (not (x .timers .mmest) && (not (x .timers .term) && (not (x .timers .connreq) && not (x .timers .nochannel)))) _ q in
     let n = and-right (not (x .timers .mmest) && (not (x .timers .term) && (not (x .timers .connreq) && not (x .timers .nochannel)))) _ q in
-    let z = and-right (eqb (x .value) 0) _ n in
+    let w = and-right (eqb (x .value) 0) _ n in
+    let z = and-left (eqb (x .reference .first) 0 && (eqb (x .reference .second) 0 && (eqb (x .reference .third) 0 && eqb (x .reference .fourth) 0))) _ w in
+    let m = and-right (eqb (x .reference .first) 0 && (eqb (x .reference .second) 0 && (eqb (x .reference .third) 0 && eqb (x .reference .fourth) 0))) _ w in
     let p1 = and-right (not (x .parameters .orig)) _ p in
     let p2 = and-right (not (x .parameters .comm)) _ p1 in
     let t1 = and-right (not (x .timers .mmest)) _ t in
@@ -73,4 +90,5 @@ fit-u0 d x fit e =
       eqb-true (x .reference .second) 0 (and-left (eqb (x .reference .second) 0) _ z1),
       eqb-true (x .reference .third) 0 (and-left (eqb (x .reference .third) 0) _ z2),
       eqb-true (x .reference .fourth) 0 (and-right (eqb (x .reference .third) 0) _ z2),
+      nothing-remembered (x .remembered) (none (isSomething (x .remembered)) m),
     )

@@ -2,5 +2,5 @@ pub mod Consistent
 pub mod Fit
 pub mod Tested
 pub mod Sound
-pub mod First
+pub mod Tables
 pub mod Coincide

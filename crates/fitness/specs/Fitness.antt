@@ -10,6 +10,8 @@ use Rattle.timer.specs.declared.Timer.{Timer}
 use Rattle.timer.specs.declared.Timers.{Timers}
 use Rattle.timer.specs.Timers.{sameTimer, isOn, ofEach}
 use Rattle.context.specs.declared.Context.{Context}
+use Rattle.context.specs.declared.Remembered.{Remembered}
+use Rattle.context.specs.Remembered.{isSomething}
 use Rattle.context.specs.States.{same, among}
 
 -- When a timer runs in a state.
@@ -25,10 +27,12 @@ pub data Parameter : Type 0 where
   D-ATT : Parameter
   U-ATT : Parameter
 
--- The descriptor: of each timer the states in which it runs, and of each parameter the states in which true is wrong.
+-- The descriptor: of each timer the states in which it runs, of each parameter the states in which true is wrong, and the states in which something is
+-- remembered; in no other is anything.
 pub record Fitness : Type 0 where
   pub timers : List (Timer × List (State × Runs))
   pub wrong : List (Parameter × List State)
+  pub remembering : List State
 
 abbrev pub isSet : Parameter → Parameters → Bool
 isSet ORIG p = p .orig
@@ -73,14 +77,20 @@ noneRuns t = ofEach (λ k. not (isOn k t))
 abbrev zero : Reference → Bool
 zero r = eqb (r .first) 0 && (eqb (r .second) 0 && (eqb (r .third) 0 && eqb (r .fourth) 0))
 
--- Parameters false, no timer, value 0, reference zero.
-unfoldable pub isCleared : Context → Bool
-isCleared x = noneSet (x .parameters) && (noneRuns (x .timers) && (eqb (x .value) 0 && zero (x .reference)))
+-- Something is remembered exactly where the table says so.
+unfoldable pub rememberedFitBy : Fitness → State → Remembered → Bool
+rememberedFitBy d s r = cond (among s (d .remembering)) (isSomething r) (not (isSomething r))
 
--- A context is fit if consistent, its value is at most 6, U0 is cleared, and timers obey the table.
+-- Parameters false, no timer, value 0, reference zero, nothing remembered.
+unfoldable pub isCleared : Context → Bool
+isCleared x =
+    noneSet (x .parameters) && (noneRuns (x .timers) && (eqb (x .value) 0 && (zero (x .reference) && not (isSomething (x .remembered)))))
+
+-- A context is fit if consistent, its value is at most 6, U0 is cleared, and timers and what is remembered obey the table.
 unfoldable pub fitBy : Fitness → Context → Bool
 fitBy d x =
     consistentBy d (x .state) (x .parameters) &&
     (leb (x .value) 6 &&
     ((not (same (x .state) U0) || isCleared x) &&
-    timersFitBy d (x .state) (x .timers)))
+    (timersFitBy d (x .state) (x .timers) &&
+    rememberedFitBy d (x .state) (x .remembered))))

@@ -1,2 +1,2 @@
 pub mod Fitness
-pub mod First
+pub mod Tables

@@ -1,23 +1,28 @@
-// Which contexts are fit, and which parameters are consistent with a state.
+// Which contexts are fit, and which parameters are consistent with a state, by a step table.
 ghost use mathlib.Core.Path.{_≡_};
-ghost use mathlib.Core.Bool.{false};
-ghost use Rattle.fitness.specs.Fitness.{consistentBy, timersFitBy, isCleared, fitBy};
-ghost use Rattle.fitness.specs.First.{firstFitness};
+ghost use mathlib.Core.Bool.{false, _&&_};
+ghost use Rattle.codes.specs.declared.state.State.the-variants.{U5};
+ghost use Rattle.context.specs.States.{among};
+ghost use Rattle.context.specs.Remembered.{isSomething};
+ghost use Rattle.fitness.specs.Fitness.{obeys, consistentBy, timersFitBy, rememberedFitBy, isCleared, fitBy};
+ghost use Rattle.fitness.specs.Tables.{fitnessOf, termRuns, rememberingStates};
 use codes::attributes::Parameters;
 use codes::state::State;
 use context::Context;
+use context::Remembered;
 use timer::Timers;
+use version::Table;
 
 // Whether the parameters are consistent with the state, 6.1.2.1.11.
-pub fn is_consistent(state: State, parameters: Parameters) -> bool
-    ensures { λ r. ⌜ r ≡ consistentBy firstFitness state parameters ⌝ }
+pub fn is_consistent(table: Table, state: State, parameters: Parameters) -> bool
+    ensures { λ r. ⌜ r ≡ consistentBy (fitnessOf table) state parameters ⌝ }
 {
-    fits_state(state, parameters.orig, parameters.comm)
+    fits_state(table, state, parameters.orig, parameters.comm)
 }
 
 // The same of the two parameters that a state asks about. They come one by one, since four that are passed as one are first put together.
-fn fits_state(state: State, orig: bool, comm: bool) -> bool
-    ensures { λ r. ⌜ r ≡ consistentBy firstFitness state (record { orig = orig; comm = comm; datt = false; uatt = false }) ⌝ }
+fn fits_state(table: Table, state: State, orig: bool, comm: bool) -> bool
+    ensures { λ r. ⌜ r ≡ consistentBy (fitnessOf table) state (record { orig = orig; comm = comm; datt = false; uatt = false }) ⌝ }
 {
     match state {
         State::U0 => !comm,
@@ -31,9 +36,59 @@ fn fits_state(state: State, orig: bool, comm: bool) -> bool
     }
 }
 
+// Whether T_term may run, or not, in U5.
+fn term_fits(table: Table, running: bool) -> bool
+    ensures { λ r. ⌜ r ≡ obeys (termRuns table) running ⌝ }
+{
+    match table {
+        Table::First => true,
+        Table::Second => running,
+    }
+}
+
+// Whether the timers that run are those of U5.
+fn timers_fit_u5(table: Table, timers: Timers) -> bool
+    ensures { λ r. ⌜ r ≡ timersFitBy (fitnessOf table) U5 timers ⌝ }
+{
+    let term = term_fits(table, timers.term);
+    !timers.mmest & (term & (!timers.connreq & !timers.nochannel))
+}
+
+// Whether something is remembered.
+fn is_something(remembered: Remembered) -> bool
+    ensures { λ r. ⌜ r ≡ isSomething remembered ⌝ }
+{
+    match remembered {
+        Remembered::Nothing => false,
+        Remembered::U1 => true,
+        Remembered::U2 => true,
+    }
+}
+
+// Whether the table has something remembered in a state.
+fn remembers(table: Table, state: State) -> bool
+    ensures { λ r. ⌜ r ≡ among state (rememberingStates table) ⌝ }
+{
+    match table {
+        Table::First => false,
+        Table::Second => context::state_number(state) == 6,
+    }
+}
+
+// Whether something is remembered exactly where the table has it so.
+fn remembered_fits(table: Table, state: State, remembered: Remembered) -> bool
+    ensures { λ r. ⌜ r ≡ rememberedFitBy (fitnessOf table) state remembered ⌝ }
+{
+    let something = is_something(remembered);
+    if remembers(table, state) {
+        return something;
+    }
+    !something
+}
+
 // Whether the timers that run are those of the state.
-fn timers_fit(state: State, timers: Timers) -> bool
-    ensures { λ r. ⌜ r ≡ timersFitBy firstFitness state timers ⌝ }
+fn timers_fit(table: Table, state: State, timers: Timers) -> bool
+    ensures { λ r. ⌜ r ≡ timersFitBy (fitnessOf table) state timers ⌝ }
 {
     match state {
         State::U0 => !timers.mmest & (!timers.term & (!timers.connreq & !timers.nochannel)),
@@ -42,7 +97,7 @@ fn timers_fit(state: State, timers: Timers) -> bool
         State::U2 => !timers.mmest & (!timers.term & (!timers.connreq & !timers.nochannel)),
         State::U3 => !timers.mmest & (!timers.term & (!timers.connreq & !timers.nochannel)),
         State::U4 => !timers.mmest & (!timers.term & (timers.connreq & !timers.nochannel)),
-        State::U5 => !timers.mmest & (!timers.connreq & !timers.nochannel),
+        State::U5 => timers_fit_u5(table, timers),
         State::U6 => !timers.mmest & (!timers.term & (!timers.connreq & true)),
     }
 }
@@ -58,23 +113,41 @@ fn is_cleared(context: Context) -> bool
     let none_runs = !timers.mmest & (!timers.term & (!timers.connreq & !timers.nochannel));
     let zero = (reference.first == 0)
         & ((reference.second == 0) & ((reference.third == 0) & (reference.fourth == 0)));
-    none_set & (none_runs & ((context.value == 0) & zero))
+    let remembered = context.remembered;
+    let something = is_something(remembered);
+    none_set & (none_runs & ((context.value == 0) & (zero & !something)))
 }
 
-// Whether the context is one that a call can be in. What U0 alone asks is looked at in U0 alone.
-pub fn is_fit(context: Context) -> bool
-    ensures { λ r. ⌜ r ≡ fitBy firstFitness context ⌝ }
+// Whether timers and what is remembered are as the table has them.
+fn rest_fits(table: Table, context: Context) -> bool
+    ensures { λ r. ⌜ r ≡ (timersFitBy (fitnessOf table) (context .state) (context .timers) && rememberedFitBy (fitnessOf table) (context .state) (context .remembered)) ⌝ }
 {
     let state = context.state;
     let timers = context.timers;
-    if !fits_state(state, context.parameters.orig, context.parameters.comm) {
+    let remembered = context.remembered;
+    let timely = timers_fit(table, state, timers);
+    let minded = remembered_fits(table, state, remembered);
+    timely & minded
+}
+
+// Whether the context is one that a call can be in. What U0 alone asks is looked at in U0 alone.
+pub fn is_fit(table: Table, context: Context) -> bool
+    ensures { λ r. ⌜ r ≡ fitBy (fitnessOf table) context ⌝ }
+{
+    let state = context.state;
+    if !fits_state(
+        table,
+        state,
+        context.parameters.orig,
+        context.parameters.comm,
+    ) {
         return false;
     }
     if 6 < context.value {
         return false;
     }
     if context::state_number(state) == 0 {
-        return is_cleared(context) & timers_fit(state, timers);
+        return is_cleared(context) & rest_fits(table, context);
     }
-    timers_fit(state, timers)
+    rest_fits(table, context)
 }

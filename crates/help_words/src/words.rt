@@ -40,7 +40,8 @@ fn tell_settings_help() {
 fn tell_show_help() {
     tell(
         b"usage: heidezirkel show LOG\n\
-          Says what a log holds, a line an entry: its time, event, message, states, parameters, actions and reply.\n\
+          Says what a log holds: its version, then a line an entry with its time, event, message, states, parameters, actions and reply,\n\
+          and where a rejected termination leads the radio back to the state that it was asked from.\n\
           An entry that can't be read is told with its number, the byte place and what is wrong. It judges nothing.\n\
           Exit status: 0 every entry is read, 1 one is not, 2 the file can't be opened.\n",
     );
@@ -52,6 +53,8 @@ fn tell_judge_help() {
           Says whether one joining timer, the same all through, explains every entry of the log from a cleared context,\n\
           and which timers do; or the first entry that can't be read or up to which none does, what it claims, and what the\n\
           step gives or which time rule it breaks. A settings file that is refused stops it at its line.\n\
+          A log is judged by the rules of its version, which is told last: after a rejected termination the radio stays in U5 in version 1,\n\
+          and in version 2 is back in the state that it asked from. A log of another version is refused.\n\
           Exit status: 0 accepted, 1 refused, 2 a file can't be opened.\n",
     );
 }
@@ -63,7 +66,8 @@ fn tell_ignored_help() {
           how many were ignored for each reason. The reasons, of which the first that applies is told:\n  \
           1 no call               2 too short         3 other protocol\n  \
           4 transaction mismatch  5 other identity    6 COMM false\n\
-          It lists up to where the judge explains the log; where the log is refused, the entry is told, and nothing behind it is listed.\n\
+          It goes by the rules of the log's version, which is told, and lists up to where the judge explains the log; where the log is\n\
+          refused, the entry is told, and nothing behind it is listed.\n\
           A settings file that is refused stops it at its line.\n\
           Exit status: 0 the whole log is explained, 1 it is refused, 2 a file can't be opened.\n",
     );
@@ -83,7 +87,7 @@ fn tell_record_help() {
     tell(
         b"usage: heidezirkel record SETTINGS SCRIPT LOG\n\
           Takes each event of the script through the step of a radio with these settings, from a cleared context, and writes what\n\
-          the step gives to a new file LOG. It judges no time: a script may tell of a radio whose timer runs wrong.\n\
+          the step gives to a new file LOG, a log of version 2. It judges no time: a script may tell of a radio whose timer runs wrong.\n\
           A line of the script: TIME EVENT [DATA..], words parted by spaces. A line that starts with # and an empty one say nothing.\n  \
           TIME    milliseconds from the start of the log; it never goes back\n  \
           EVENT   set-up-request, immediate-set-up-request, broadcast-notified: DATA value=N reference=H,\n          \
@@ -101,8 +105,9 @@ fn tell_timeline_help() {
     tell(
         b"usage: heidezirkel timeline LOG FILE.svg\n\
           Draws what a log holds into a new file, an SVG picture that browsers show and print: time along, states as bars,\n\
-          entries and messages as marks, the time within which the joining timer ends, and a list in words. It shows what\n\
-          the log claims and judges nothing. An entry that can't be read ends the picture and is told on standard error.\n\
+          entries and messages as marks, the time within which the joining timer ends, and a list in words, which says too where\n\
+          a rejected termination leads back to. It shows what the log claims, and its version, and judges nothing. An entry that\n\
+          can't be read ends the picture and is told on standard error.\n\
           Exit status: 0 every entry is read, 1 one is not, 2 a file can't be opened or made.\n",
     );
 }

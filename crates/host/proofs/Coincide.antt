@@ -9,11 +9,12 @@ use Rattle.context.specs.declared.Context.{Context}
 use Rattle.reply.specs.declared.Own.{Own}
 use Rattle.radio.specs.declared.Happened.{Happened}
 use Rattle.radio.specs.declared.Outcome.{Outcome}
+use Rattle.version.specs.Version.{newest}
 use Rattle.radio.specs.Step.{Reaction, stepOf, shown}
 
 module _ (own : Own) (identity d : List ℕ) (x : Context) (h : Happened) (s : List ℕ) where
   abbrev comes : Reaction
-  comes = stepOf own identity (length d) x h s
+  comes = stepOf newest own identity (length d) x h s
 
   pub step-coincides : (y z : Context) (a b : Outcome) (e f : List ℕ)
       → (y ≡ shown comes .context) × (a ≡ shown comes .outcome) × (e ≡ sets d 0 (comes .reply))

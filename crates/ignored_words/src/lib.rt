@@ -6,6 +6,7 @@ ghost use Prim.Native.Nat.{_<_};
 use judge_walk::End;
 use judge_walk::walk;
 pub use listing::list;
+use log_words::tell_version;
 use reason::tell_reason;
 use replay::own_of;
 use reply::Own;
@@ -35,6 +36,7 @@ fn tell_walked(own: Own, identity: &[u8], log: &[u8]) -> u8 {
     let entries = track.entries;
     let counts = list(own, identity, log, entries);
     tell_counts(&counts, entries);
+    tell_version(log);
     tell_end(end, std::num::wrapping_add_usize(entries, 1))
 }
 

@@ -73,7 +73,7 @@ fn pass_entry(table: Table, own: Own, identity: &[u8], log: &[u8], before: Passe
     };
     let context = before.context;
     let mut reply = [0u8; 255];
-    let stepped = step_entry(own, identity, log, context, entry, &mut reply);
+    let stepped = step_entry(table, own, identity, log, context, entry, &mut reply);
     let outcome = stepped.outcome;
     let after = stepped.context;
     let passed = Passed {

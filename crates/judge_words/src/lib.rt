@@ -4,6 +4,7 @@ pub mod claim;
 mod refusal;
 
 use log_words::entry::tell_long;
+use log_words::tell_version;
 use refusal::tell_refusal;
 use replay::own_of;
 use reply::Own;
@@ -20,13 +21,15 @@ pub fn tell_judged(settings: Settings, log: &[u8]) -> u8 {
     let count = settings.count;
     let own = own_of(settings);
     let judged = judge::judge(own, part(&identity, 0, count), log);
-    tell_verdict_on(
+    let verdict = tell_verdict_on(
         own,
         part(&identity, 0, count),
         settings.joining as u64,
         log,
         judged,
-    )
+    );
+    tell_version(log);
+    verdict
 }
 
 fn tell_verdict_on(own: Own, identity: &[u8], joining: u64, log: &[u8], judged: Judged) -> u8 {

@@ -4,7 +4,8 @@ use mathlib.Core.Path.{_≡_}
 use Rattle.octets.proofs.Coincide.{coincide}
 use Rattle.context.specs.declared.Context.{Context}
 use Rattle.transitions.specs.declared.Decision.{Decision}
+use Rattle.version.specs.declared.Table.{Table}
 use Rattle.transitions.specs.Table.{decidedOf}
 
-pub decide-coincides : (x : Context) (code : ℕ) (a b : Decision) → a ≡ decidedOf x 18 code → b ≡ decidedOf x 18 code → a ≡ b
-decide-coincides x code a b = coincide (decidedOf x 18 code) a b
+pub decide-coincides : (table : Table) (x : Context) (code : ℕ) (a b : Decision) → a ≡ decidedOf table x 18 code → b ≡ decidedOf table x 18 code → a ≡ b
+decide-coincides table x code a b = coincide (decidedOf table x 18 code) a b

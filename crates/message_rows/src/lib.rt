@@ -1,16 +1,25 @@
 // The step table's rows of messages, state by state: what it says of a message of a type.
 ghost use mathlib.Core.Path.{_≡_};
 ghost use Rattle.codes.specs.declared.state.State.the-variants.{U0p, U1, U2, U5};
-ghost use Rattle.codes.specs.MessageTypes.{CONNECT};
+ghost use Rattle.codes.specs.MessageTypes.{CONNECT, TERMINATION-REJECT};
+ghost use Rattle.timer.specs.declared.Timer.the-variants.{NoTimer, Term};
+ghost use Rattle.context.specs.Remembered.{returning};
+ghost use Rattle.transitions.specs.declared.Send.the-variants.{Nothing};
+ghost use Rattle.transitions.specs.declared.Stores.the-variants as Stores;
+ghost use Rattle.transitions.specs.declared.Memory.the-variants.{Forget};
+ghost use Rattle.transitions.specs.declared.Decision.the-variants.{Take};
 ghost use Rattle.transitions.specs.Table.{stepTable, heardIn, decidedOf};
 use codes::message_type;
 use codes::state::State;
 use context::Context;
+use context::Remembered;
 use timer::Timer;
 use transitions::Decision;
+use transitions::Memory;
 use transitions::Send;
 use transitions::Stores;
 use transitions::Taken;
+use version::Table;
 
 // CONNECT: 32 if in U1 with T_MM-est, else 0.
 const CONNECTED: Decision = Decision::Take(Taken {
@@ -20,6 +29,7 @@ const CONNECTED: Decision = Decision::Take(Taken {
     stops: Timer::MmEst,
     sets: Timer::NoTimer,
     stores: Stores::ItsReference,
+    memory: Memory::Keep,
 });
 
 // The same in U1 with T_MM-est.
@@ -30,9 +40,10 @@ const CONNECTED_IMPLICITLY: Decision = Decision::Take(Taken {
     stops: Timer::MmEst,
     sets: Timer::NoTimer,
     stores: Stores::ItsReference,
+    memory: Memory::Keep,
 });
 
-// TERMINATION REJECT in U5.
+// TERMINATION REJECT in U5, by the first table: the radio stays there.
 const REJECTED: Decision = Decision::Take(Taken {
     next: State::U5,
     actions: 1,
@@ -40,6 +51,7 @@ const REJECTED: Decision = Decision::Take(Taken {
     stops: Timer::Term,
     sets: Timer::NoTimer,
     stores: Stores::Nothing,
+    memory: Memory::Keep,
 });
 
 // TERMINATION, in all states but U0.
@@ -50,6 +62,7 @@ const TERMINATED: Decision = Decision::Take(Taken {
     stops: Timer::NoTimer,
     sets: Timer::NoTimer,
     stores: Stores::Nothing,
+    memory: Memory::Keep,
 });
 
 // A type that is not compatible with the state.
@@ -58,9 +71,36 @@ const INCOMPATIBLE: Decision = Decision::Report(98);
 // A type that does not exist.
 const UNKNOWN: Decision = Decision::Report(97);
 
+// The same from the second table on: back to where the termination was asked from.
+fn returned(remembered: Remembered) -> Decision
+    ensures { λ r. ⌜ r ≡ Take (record { next = returning remembered U5; actions = 1; sends = Nothing; stops = Term; sets = NoTimer; stores = Stores.Nothing; memory = Forget }) ⌝ }
+{
+    let next = context::returning(remembered, State::U5);
+    Decision::Take(Taken {
+        next,
+        actions: 1,
+        sends: Send::Nothing,
+        stops: Timer::Term,
+        sets: Timer::NoTimer,
+        stores: Stores::Nothing,
+        memory: Memory::Forget,
+    })
+}
+
+// TERMINATION REJECT in U5.
+fn rejected(table: Table, context: Context) -> Decision
+    ensures { λ r. ⌜ r ≡ heardIn (stepTable table) U5 context TERMINATION-REJECT ⌝ }
+{
+    let remembered = context.remembered;
+    match table {
+        Table::First => REJECTED,
+        Table::Second => returned(remembered),
+    }
+}
+
 // CONNECT in U1.
-fn connected_in_u1(context: Context) -> Decision
-    ensures { λ r. ⌜ r ≡ heardIn stepTable U1 context CONNECT ⌝ }
+fn connected_in_u1(table: Table, context: Context) -> Decision
+    ensures { λ r. ⌜ r ≡ heardIn (stepTable table) U1 context CONNECT ⌝ }
 {
     let timers = context.timers;
     if timers.mmest {
@@ -70,8 +110,8 @@ fn connected_in_u1(context: Context) -> Decision
 }
 
 // A message in U0.p.
-fn heard_in_u0p(context: Context, code: u8) -> Decision
-    ensures { λ r. ⌜ r ≡ heardIn stepTable U0p context code ⌝ }
+fn heard_in_u0p(table: Table, context: Context, code: u8) -> Decision
+    ensures { λ r. ⌜ r ≡ heardIn (stepTable table) U0p context code ⌝ }
 {
     match code {
         message_type::IMMEDIATE_SETUP => INCOMPATIBLE,
@@ -88,13 +128,13 @@ fn heard_in_u0p(context: Context, code: u8) -> Decision
 }
 
 // A message in U1.
-fn heard_in_u1(context: Context, code: u8) -> Decision
-    ensures { λ r. ⌜ r ≡ heardIn stepTable U1 context code ⌝ }
+fn heard_in_u1(table: Table, context: Context, code: u8) -> Decision
+    ensures { λ r. ⌜ r ≡ heardIn (stepTable table) U1 context code ⌝ }
 {
     match code {
         message_type::IMMEDIATE_SETUP => INCOMPATIBLE,
         message_type::SETUP => INCOMPATIBLE,
-        message_type::CONNECT => connected_in_u1(context),
+        message_type::CONNECT => connected_in_u1(table, context),
         message_type::TERMINATION => TERMINATED,
         message_type::TERMINATION_REQUEST => INCOMPATIBLE,
         message_type::TERMINATION_REJECT => INCOMPATIBLE,
@@ -106,8 +146,8 @@ fn heard_in_u1(context: Context, code: u8) -> Decision
 }
 
 // A message in U5.
-fn heard_in_u5(context: Context, code: u8) -> Decision
-    ensures { λ r. ⌜ r ≡ heardIn stepTable U5 context code ⌝ }
+fn heard_in_u5(table: Table, context: Context, code: u8) -> Decision
+    ensures { λ r. ⌜ r ≡ heardIn (stepTable table) U5 context code ⌝ }
 {
     match code {
         message_type::IMMEDIATE_SETUP => INCOMPATIBLE,
@@ -115,7 +155,7 @@ fn heard_in_u5(context: Context, code: u8) -> Decision
         message_type::CONNECT => INCOMPATIBLE,
         message_type::TERMINATION => TERMINATED,
         message_type::TERMINATION_REQUEST => INCOMPATIBLE,
-        message_type::TERMINATION_REJECT => REJECTED,
+        message_type::TERMINATION_REJECT => rejected(table, context),
         message_type::STATUS => INCOMPATIBLE,
         message_type::GET_STATUS => Decision::TellStatus,
         message_type::SET_PARAMETER => Decision::SetParameters,
@@ -124,8 +164,8 @@ fn heard_in_u5(context: Context, code: u8) -> Decision
 }
 
 // A message in U2, and so in U3, U4 and U6.
-fn heard_elsewhere(context: Context, code: u8) -> Decision
-    ensures { λ r. ⌜ r ≡ heardIn stepTable U2 context code ⌝ }
+fn heard_elsewhere(table: Table, context: Context, code: u8) -> Decision
+    ensures { λ r. ⌜ r ≡ heardIn (stepTable table) U2 context code ⌝ }
 {
     match code {
         message_type::IMMEDIATE_SETUP => INCOMPATIBLE,
@@ -142,18 +182,18 @@ fn heard_elsewhere(context: Context, code: u8) -> Decision
 }
 
 // What the table says of a message of a type in the context's state. It is asked before a message is read, and by itself it is small.
-pub fn decide(context: Context, code: u8) -> Decision
-    ensures { λ r. ⌜ r ≡ decidedOf context 18 code ⌝ }
+pub fn decide(table: Table, context: Context, code: u8) -> Decision
+    ensures { λ r. ⌜ r ≡ decidedOf table context 18 code ⌝ }
 {
     let state = context.state;
     match state {
         State::U0 => Decision::Ignore,
-        State::U0p => heard_in_u0p(context, code),
-        State::U1 => heard_in_u1(context, code),
-        State::U2 => heard_elsewhere(context, code),
-        State::U3 => heard_elsewhere(context, code),
-        State::U4 => heard_elsewhere(context, code),
-        State::U5 => heard_in_u5(context, code),
-        State::U6 => heard_elsewhere(context, code),
+        State::U0p => heard_in_u0p(table, context, code),
+        State::U1 => heard_in_u1(table, context, code),
+        State::U2 => heard_elsewhere(table, context, code),
+        State::U3 => heard_elsewhere(table, context, code),
+        State::U4 => heard_elsewhere(table, context, code),
+        State::U5 => heard_in_u5(table, context, code),
+        State::U6 => heard_elsewhere(table, context, code),
     }
 }

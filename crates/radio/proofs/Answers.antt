@@ -7,10 +7,11 @@ use native.Mathlib.Omega.{arith}
 use lib.ListN.{length}
 use borrow.Author.Tests.{leb-true}
 use Rattle.codes.specs.declared.state.State.the-variants.{U0}
+use Rattle.version.specs.declared.Table.{Table}
 use Rattle.context.specs.declared.Context.{Context}
 use Rattle.context.specs.Context.{cleared}
-use Rattle.fitness.specs.First.{fitOf}
-use Rattle.fitness.proofs.First.{fit-u0, fit-value}
+use Rattle.fitness.specs.Tables.{fitOf}
+use Rattle.fitness.proofs.Tables.{fit-u0, fit-value}
 use Rattle.transitions.specs.declared.Send.{Send}
 use Rattle.transitions.specs.declared.Send.the-variants.{Nothing}
 use Rattle.call.specs.declared.Settled.{Settled}
@@ -22,11 +23,6 @@ use Rattle.radio.specs.declared.Happened.{Happened}
 use Rattle.radio.specs.Step.{dueTo, reactedTo, Reaction, refused, reacted, stepOf}
 use Rattle.radio.proofs.Range.{refused-most, refused-not-1}
 use Rattle.radio.proofs.Reacting.{of-step, react-fit}
-
--- Whatever is due keeps what the answers promise.
-pub react-right : (identity : List ℕ) (x : Context) (h : Happened) (s : List ℕ) → Right 63 x (reactedTo identity x h s)
-unfolding reactedTo
-react-right identity x h s = settled-right x (dueTo identity x h s)
 
 -- What a reaction's answer says: it is a number of the table, 0 to 7; any but 0 keeps the context and has no actions; any but 0 and 2 writes nothing.
 -- Its actions are at most 63. Answer 1 has a reason of 1 to 6 beside it, and every other answer 0.
@@ -65,30 +61,36 @@ reacted-honest own identity s x t r = record {
   untold = r .untold;
 }
 
--- Every call is answered 0 to 7. Answers 1 and 3 to 7 change nothing lent, and 2 keeps the context.
-pub step-honest : (own : Own) (identity : List ℕ) (room : ℕ) (x : Context) (h : Happened) (s : List ℕ) → Honest x (stepOf own identity room x h s)
-step-honest own identity room x h s =
-    of-step own identity room x h s (Honest x) (refused-honest x _ (refused-most x (own .key) (length identity) h (length s) room) (refused-not-1 x (own .key) (length identity) h (length s) room))
-    (λ o. reacted-honest own identity s x (reactedTo identity x h s) (react-right identity x h s))
+module _ (table : Table) where
+  -- Whatever is due keeps what the answers promise.
+  pub react-right : (identity : List ℕ) (x : Context) (h : Happened) (s : List ℕ) → Right 63 x (reactedTo table identity x h s)
+  unfolding reactedTo
+  react-right identity x h s = settled-right table x (dueTo table identity x h s)
 
--- A step from a fit context ends in a fit one.
-pub step-keeps-fit : (own : Own) (identity : List ℕ) (room : ℕ) (x : Context) (h : Happened) (s : List ℕ) → fitOf x ≡ true
-    → fitOf (stepOf own identity room x h s .context) ≡ true
-step-keeps-fit own identity room x h s fit =
-    of-step own identity room x h s (λ r. fitOf (r .context) ≡ true) fit (λ o. react-fit identity x h s (own .key) fit (o .range))
+  -- Every call is answered 0 to 7. Answers 1 and 3 to 7 change nothing lent, and 2 keeps the context.
+  pub step-honest : (own : Own) (identity : List ℕ) (room : ℕ) (x : Context) (h : Happened) (s : List ℕ) → Honest x (stepOf table own identity room x h s)
+  step-honest own identity room x h s =
+      of-step table own identity room x h s (Honest x) (refused-honest x _ (refused-most table x (own .key) (length identity) h (length s) room) (refused-not-1 table x (own .key) (length identity) h (length s) room))
+      (λ o. reacted-honest own identity s x (reactedTo table identity x h s) (react-right identity x h s))
 
--- Entering U0 clears: a context that is in U0 after a step is the cleared one.
-pub u0-cleared : (own : Own) (identity : List ℕ) (room : ℕ) (x : Context) (h : Happened) (s : List ℕ) → fitOf x ≡ true
-    → stepOf own identity room x h s .context .state ≡ U0 → stepOf own identity room x h s .context ≡ cleared
-u0-cleared own identity room x h s fit e = fit-u0 (stepOf own identity room x h s .context) (step-keeps-fit own identity room x h s fit) e
+  -- A step from a fit context ends in a fit one.
+  pub step-keeps-fit : (own : Own) (identity : List ℕ) (room : ℕ) (x : Context) (h : Happened) (s : List ℕ) → fitOf table x ≡ true
+      → fitOf table (stepOf table own identity room x h s .context) ≡ true
+  step-keeps-fit own identity room x h s fit =
+      of-step table own identity room x h s (λ r. fitOf table (r .context) ≡ true) fit (λ o. react-fit table identity x h s (own .key) fit (o .range))
 
--- A reply has at most 251 octets.
-abbrev Short : Reaction → Type 0
-Short r = length (r .reply) ≤ 251
+  -- Entering U0 clears: a context that is in U0 after a step is the cleared one.
+  pub u0-cleared : (own : Own) (identity : List ℕ) (room : ℕ) (x : Context) (h : Happened) (s : List ℕ) → fitOf table x ≡ true
+      → stepOf table own identity room x h s .context .state ≡ U0 → stepOf table own identity room x h s .context ≡ cleared
+  u0-cleared own identity room x h s fit e = fit-u0 table (stepOf table own identity room x h s .context) (step-keeps-fit own identity room x h s fit) e
 
-pub step-short : (own : Own) (identity : List ℕ) (room : ℕ) (x : Context) (h : Happened) (s : List ℕ) → Short (stepOf own identity room x h s)
-step-short own identity room x h s =
-    of-step own identity room x h s Short (omega arith)
-    (λ o.
-    let t : Settled = reactedTo identity x h s in
-    reply-short (t .context) (leb-true _ _ (fit-value (t .context) (react-fit identity x h s (own .key) (o .fit) (o .range)))) own identity s (t .sends) (o .known) (o .least) (o .most))
+  -- A reply has at most 251 octets.
+  abbrev Short : Reaction → Type 0
+  Short r = length (r .reply) ≤ 251
+
+  pub step-short : (own : Own) (identity : List ℕ) (room : ℕ) (x : Context) (h : Happened) (s : List ℕ) → Short (stepOf table own identity room x h s)
+  step-short own identity room x h s =
+      of-step table own identity room x h s Short (omega arith)
+      (λ o.
+      let t : Settled = reactedTo table identity x h s in
+      reply-short (t .context) (leb-true _ _ (fit-value table (t .context) (react-fit table identity x h s (own .key) (o .fit) (o .range)))) own identity s (t .sends) (o .known) (o .least) (o .most))

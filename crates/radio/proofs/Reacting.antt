@@ -9,9 +9,10 @@ use lib.Seq.{sets}
 use borrow.Author.Tests.{eq-eqb, ne-eqb, eqb-true, leb-true}
 use Rattle.octets.proofs.Choice.{at-cond}
 use Rattle.message.specs.declared.Reference.{Reference}
+use Rattle.version.specs.declared.Table.{Table}
 use Rattle.context.specs.declared.Context.{Context}
-use Rattle.fitness.specs.First.{fitOf}
-use Rattle.fitness.proofs.First.{fit-value}
+use Rattle.fitness.specs.Tables.{fitOf}
+use Rattle.fitness.proofs.Tables.{fit-value}
 use Rattle.call.specs.declared.Due.{Due}
 use Rattle.call.specs.declared.Due.the-variants.{Steps, Refused}
 use Rattle.call.specs.declared.Event.{Event}
@@ -34,97 +35,98 @@ use Rattle.radio.specs.Step.{eventOf, toldDue, dueTo, reactedTo, Reactio
 use Rattle.radio.proofs.Numbers.{IsOf, event-of-number}
 use Rattle.radio.proofs.Range.{InRange, in-range, value-most}
 
--- The three ways of `due_to`.
-module _ (identity : List ℕ) (x : Context) (h : Happened) (s : List ℕ) (r : Due) where
-  pub by-message : h .number ≡ 18 → r ≡ dueOf identity x (h .mode) s → r ≡ dueTo identity x h s
-  unfolding dueTo
-  by-message e p = rw (eq-eqb (h .number) 18 e) p
+module _ (table : Table) where
+  -- The three ways of `due_to`.
+  module _ (identity : List ℕ) (x : Context) (h : Happened) (s : List ℕ) (r : Due) where
+    pub by-message : h .number ≡ 18 → r ≡ dueOf table identity x (h .mode) s → r ≡ dueTo table identity x h s
+    unfolding dueTo
+    by-message e p = rw (eq-eqb (h .number) 18 e) p
 
-  pub by-event : (h .number ≡ 18 → ⊥) → (event : Event) → eventOf (h .number) (h .value) (h .reference) ≡ Is event → r ≡ Steps event → r ≡ dueTo identity x h s
-  unfolding dueTo toldDue
-  by-event n event e p = rw (ne-eqb (h .number) 18 n, e) p
+    pub by-event : (h .number ≡ 18 → ⊥) → (event : Event) → eventOf (h .number) (h .value) (h .reference) ≡ Is event → r ≡ Steps event → r ≡ dueTo table identity x h s
+    unfolding dueTo toldDue
+    by-event n event e p = rw (ne-eqb (h .number) 18 n, e) p
 
-  pub by-none : (h .number ≡ 18 → ⊥) → eventOf (h .number) (h .value) (h .reference) ≡ NoEvent → r ≡ Refused → r ≡ dueTo identity x h s
-  unfolding dueTo toldDue
-  by-none n e p = rw (ne-eqb (h .number) 18 n, e) p
+    pub by-none : (h .number ≡ 18 → ⊥) → eventOf (h .number) (h .value) (h .reference) ≡ NoEvent → r ≡ Refused → r ≡ dueTo table identity x h s
+    unfolding dueTo toldDue
+    by-none n e p = rw (ne-eqb (h .number) 18 n, e) p
 
--- What is due where an event in range happens carries a value in range: a message none,
--- and any other event what it was given.
-told-fit : (n v : ℕ) (r : Reference) → ((eqb n 1 || (eqb n 2 || eqb n 10)) ≡ true → leb v 6 ≡ true) → DueFit (toldDue (eventOf n v r))
-unfolding toldDue
-told-fit n v r h = go (eventOf n v r) (event-of-number n v r)
-  where
-    given-or-none : (c : Bool) → (c ≡ true → leb v 6 ≡ true) → leb (cond c (carrying n v r) (bare n) .value) 6 ≡ true
-    given-or-none true k = k refl
-    given-or-none false k = refl
+  -- What is due where an event in range happens carries a value in range: a message none,
+  -- and any other event what it was given.
+  told-fit : (n v : ℕ) (r : Reference) → ((eqb n 1 || (eqb n 2 || eqb n 10)) ≡ true → leb v 6 ≡ true) → DueFit (toldDue (eventOf n v r))
+  unfolding toldDue
+  told-fit n v r h = go (eventOf n v r) (event-of-number n v r)
+    where
+      given-or-none : (c : Bool) → (c ≡ true → leb v 6 ≡ true) → leb (cond c (carrying n v r) (bare n) .value) 6 ≡ true
+      given-or-none true k = k refl
+      given-or-none false k = refl
 
-    go : (t : Told) → IsOf n v r t → DueFit (toldDue t)
-    go (Is event) p = rw p (given-or-none (eqb n 1 || (eqb n 2 || eqb n 10)) h)
-    go NoEvent p = tt
+      go : (t : Told) → IsOf n v r t → DueFit (toldDue t)
+      go (Is event) p = rw p (given-or-none (eqb n 1 || (eqb n 2 || eqb n 10)) h)
+      go NoEvent p = tt
 
--- A step from a fit context ends in a fit one.
-pub react-fit : (identity : List ℕ) (x : Context) (h : Happened) (s : List ℕ) (key : ℕ) → fitOf x ≡ true
-    → outOfRange key (length identity) (h .number) (h .value) (h .mode) ≡ false → fitOf (reactedTo identity x h s .context) ≡ true
-unfolding reactedTo dueTo
-react-fit identity x h s key fit range =
-    settled-fit x fit _
-    (at-cond DueFit (eqb (h .number) 18) _ _ (λ e. every-due DueFit (λ reason. tt) (λ cause. tt) received-value identity x (h .mode) s)
-    (λ e. told-fit (h .number) (h .value) (h .reference) (value-most key (length identity) h range)))
+  -- A step from a fit context ends in a fit one.
+  pub react-fit : (identity : List ℕ) (x : Context) (h : Happened) (s : List ℕ) (key : ℕ) → fitOf table x ≡ true
+      → outOfRange key (length identity) (h .number) (h .value) (h .mode) ≡ false → fitOf table (reactedTo table identity x h s .context) ≡ true
+  unfolding reactedTo dueTo
+  react-fit identity x h s key fit range =
+      settled-fit table x fit _
+      (at-cond DueFit (eqb (h .number) 18) _ _ (λ e. every-due DueFit (λ reason. tt) (λ cause. tt) received-value table identity x (h .mode) s)
+      (λ e. told-fit (h .number) (h .value) (h .reference) (value-most key (length identity) h range)))
 
--- The step by the number of its refusal.
-pub step-by : (own : Own) (identity : List ℕ) (room : ℕ) (x : Context) (h : Happened) (s : List ℕ)
-    → stepOf own identity room x h s
-    ≡ (let n : ℕ = refusalOf x (own .key) (length identity) h (length s) room in cond (eqb n 0) (reacted own identity s (reactedTo identity x h s)) (refused n x))
-unfolding stepOf
-step-by own identity room x h s = refl
-
--- What holds of each refusal, and of the step where none refuses, holds of the step.
-module _ (own : Own) (identity : List ℕ) (room : ℕ) (x : Context) (h : Happened) (s : List ℕ) (P : Reaction → Type 0) where
-  pub of-step : P (refused (refusalOf x (own .key) (length identity) h (length s) room) x)
-      → (InRange x (own .key) (length identity) h (length s) room → P (reacted own identity s (reactedTo identity x h s)))
-      → P (stepOf own identity room x h s)
+  -- The step by the number of its refusal.
+  pub step-by : (own : Own) (identity : List ℕ) (room : ℕ) (x : Context) (h : Happened) (s : List ℕ)
+      → stepOf table own identity room x h s
+      ≡ (let n : ℕ = refusalOf table x (own .key) (length identity) h (length s) room in cond (eqb n 0) (reacted own identity s (reactedTo table identity x h s)) (refused n x))
   unfolding stepOf
-  of-step no-way yes-way =
-      at-cond P (eqb (refusalOf x (own .key) (length identity) h (length s) room) 0) _ _
-      (λ e. yes-way (in-range x (own .key) (length identity) h (length s) room (eqb-true _ 0 e))) (λ e. no-way)
+  step-by own identity room x h s = refl
 
-module _ (own : Own) (identity d : List ℕ) (x : Context) (h : Happened) (s : List ℕ) where
-  abbrev why : ℕ
-  why = refusalOf x (own .key) (length identity) h (length s) (length d)
+  -- What holds of each refusal, and of the step where none refuses, holds of the step.
+  module _ (own : Own) (identity : List ℕ) (room : ℕ) (x : Context) (h : Happened) (s : List ℕ) (P : Reaction → Type 0) where
+    pub of-step : P (refused (refusalOf table x (own .key) (length identity) h (length s) room) x)
+        → (InRange table x (own .key) (length identity) h (length s) room → P (reacted own identity s (reactedTo table identity x h s)))
+        → P (stepOf table own identity room x h s)
+    unfolding stepOf
+    of-step no-way yes-way =
+        at-cond P (eqb (refusalOf table x (own .key) (length identity) h (length s) room) 0) _ _
+        (λ e. yes-way (in-range table x (own .key) (length identity) h (length s) room (eqb-true _ 0 e))) (λ e. no-way)
 
-  abbrev all : Reaction
-  all = stepOf own identity (length d) x h s
+  module _ (own : Own) (identity d : List ℕ) (x : Context) (h : Happened) (s : List ℕ) where
+    abbrev why : ℕ
+    why = refusalOf table x (own .key) (length identity) h (length s) (length d)
 
-  -- The step without its tests, as the code goes it.
-  abbrev pub Taking : Stepped → List ℕ → Type 0
-  Taking r after =
-      (r ≡ shown (takenOf own identity (length d) x h s)) × (after ≡ sets d 0 (takenOf own identity (length d) x h s .reply))
+    abbrev all : Reaction
+    all = stepOf table own identity (length d) x h s
 
-  pub takes : (t : Settled) → t ≡ reactedTo identity x h s → (n : ℕ) (after : List ℕ)
-      → (n ≡ length (putOf (length d) own identity s (t .context) (t .sends))) × (after ≡ sets d 0 (putOf (length d) own identity s (t .context) (t .sends)))
-      → Taking (record { context = t .context; outcome = record { answer = t .answer; reason = t .reason; actions = t .actions; count = n } }) after
-  unfolding takenOf
-  takes t p n after w = rw (← p) (rw (w .0), w .1)
+    -- The step without its tests, as the code goes it.
+    abbrev pub Taking : Stepped → List ℕ → Type 0
+    Taking r after =
+        (r ≡ shown (takenOf table own identity (length d) x h s)) × (after ≡ sets d 0 (takenOf table own identity (length d) x h s .reply))
 
-  -- The two ways of the step, as the code goes them.
-  abbrev pub Stepping : Stepped → List ℕ → Type 0
-  Stepping r after = (r ≡ shown all) × (after ≡ sets d 0 (all .reply))
+    pub takes : (t : Settled) → t ≡ reactedTo table identity x h s → (n : ℕ) (after : List ℕ)
+        → (n ≡ length (putOf (length d) own identity s (t .context) (t .sends))) × (after ≡ sets d 0 (putOf (length d) own identity s (t .context) (t .sends)))
+        → Taking (record { context = t .context; outcome = record { answer = t .answer; reason = t .reason; actions = t .actions; count = n } }) after
+    unfolding takenOf
+    takes t p n after w = rw (← p) (rw (w .0), w .1)
 
-  pub is-refused : (a : ℕ) → a ≡ why → (a ≡ 0 → ⊥) → Stepping (shown (refused a x)) d
-  is-refused a e n =
-      let q : all ≡ refused a x = step-by own identity (length d) x h s ∙ rw (← e, ne-eqb a 0 n) in
-      rw q (refl, refl)
+    -- The two ways of the step, as the code goes them.
+    abbrev pub Stepping : Stepped → List ℕ → Type 0
+    Stepping r after = (r ≡ shown all) × (after ≡ sets d 0 (all .reply))
 
-  -- Where no test refuses, the step without its tests is the step: the reply fits the buffer.
-  pub taken-is-step : why ≡ 0 → takenOf own identity (length d) x h s ≡ all
-  unfolding takenOf
-  taken-is-step z =
-      let o : InRange x (own .key) (length identity) h (length s) (length d) = in-range x _ _ h _ _ z in
-      let t : Settled = reactedTo identity x h s in
-      let f : fitOf (t .context) ≡ true = react-fit identity x h s (own .key) (o .fit) (o .range) in
-      let l : putOf (length d) own identity s (t .context) (t .sends) ≡ replyOf own identity s (t .context) (t .sends)
-      = put-is-reply (t .context) (leb-true _ _ (fit-value (t .context) f)) (length d) own identity s (t .sends) (o .big) (o .known) (o .least) (o .most) in
-      rw l (sym (step-by own identity (length d) x h s ∙ rw z))
+    pub is-refused : (a : ℕ) → a ≡ why → (a ≡ 0 → ⊥) → Stepping (shown (refused a x)) d
+    is-refused a e n =
+        let q : all ≡ refused a x = step-by own identity (length d) x h s ∙ rw (← e, ne-eqb a 0 n) in
+        rw q (refl, refl)
 
-  pub is-taken : (a : ℕ) → a ≡ why → a ≡ 0 → (r : Stepped) (after : List ℕ) → Taking r after → Stepping r after
-  is-taken a e z r after w = rw (taken-is-step (sym e ∙ z)) at w
+    -- Where no test refuses, the step without its tests is the step: the reply fits the buffer.
+    pub taken-is-step : why ≡ 0 → takenOf table own identity (length d) x h s ≡ all
+    unfolding takenOf
+    taken-is-step z =
+        let o : InRange table x (own .key) (length identity) h (length s) (length d) = in-range table x _ _ h _ _ z in
+        let t : Settled = reactedTo table identity x h s in
+        let f : fitOf table (t .context) ≡ true = react-fit identity x h s (own .key) (o .fit) (o .range) in
+        let l : putOf (length d) own identity s (t .context) (t .sends) ≡ replyOf own identity s (t .context) (t .sends)
+        = put-is-reply (t .context) (leb-true _ _ (fit-value table (t .context) f)) (length d) own identity s (t .sends) (o .big) (o .known) (o .least) (o .most) in
+        rw l (sym (step-by own identity (length d) x h s ∙ rw z))
+
+    pub is-taken : (a : ℕ) → a ≡ why → a ≡ 0 → (r : Stepped) (after : List ℕ) → Taking r after → Stepping r after
+    is-taken a e z r after w = rw (taken-is-step (sym e ∙ z)) at w

@@ -6,8 +6,9 @@ use lib.ListN.{length}
 use lib.Dec.{eqb}
 use Rattle.octets.specs.Rows.{rows}
 use Rattle.message.specs.declared.Reference.{Reference}
+use Rattle.version.specs.declared.Table.{Table}
 use Rattle.context.specs.declared.Context.{Context}
-use Rattle.fitness.specs.First.{fitOf}
+use Rattle.fitness.specs.Tables.{fitOf}
 use Rattle.call.specs.declared.Due.{Due}
 use Rattle.call.specs.declared.Due.the-variants.{Steps, Refused}
 use Rattle.call.specs.declared.Event.the-variants.{
@@ -72,12 +73,12 @@ toldDue (Is event) = Steps event
 toldDue NoEvent = Refused
 
 -- What is due where an event happens: a message goes by "Received messages", any other event by its number.
-unfoldable pub dueTo : List ℕ → Context → Happened → List ℕ → Due
-dueTo identity x h s = cond (eqb (h .number) 18) (dueOf identity x (h .mode) s) (toldDue (eventOf (h .number) (h .value) (h .reference)))
+unfoldable pub dueTo : Table → List ℕ → Context → Happened → List ℕ → Due
+dueTo table identity x h s = cond (eqb (h .number) 18) (dueOf table identity x (h .mode) s) (toldDue (eventOf (h .number) (h .value) (h .reference)))
 
 -- What is due, done.
-unfoldable pub reactedTo : List ℕ → Context → Happened → List ℕ → Settled
-reactedTo identity x h s = settled x (dueTo identity x h s)
+unfoldable pub reactedTo : Table → List ℕ → Context → Happened → List ℕ → Settled
+reactedTo table identity x h s = settled table x (dueTo table identity x h s)
 
 -- What a step comes to: answer number, the reason beside answer 1, context afterwards, actions, reply octets.
 pub record Reaction : Type 0 where
@@ -103,24 +104,24 @@ reacted own identity s taken = record {
 
 -- Why a step is refused, as the answer's number, and 0 where it is not; in two parts. The first: 7, the context is not fit.
 -- The second, whatever the context, goes by the step's arguments: 5, 6 and 4 (`argumentRefusal`).
-unfoldable pub fitnessRefusal : Context → ℕ
-fitnessRefusal x = cond (not (fitOf x)) 7 0
+unfoldable pub fitnessRefusal : Table → Context → ℕ
+fitnessRefusal table x = cond (not (fitOf table x)) 7 0
 
 -- Test order for a step: 7, 5, 6, 4,
-unfoldable pub refusalOf : Context → ℕ → ℕ → Happened → ℕ → ℕ → ℕ
-refusalOf x key identity h octets room =
-    cond (eqb (fitnessRefusal x) 0) (argumentRefusal key identity (h .number) (h .value) (h .mode) octets room) (fitnessRefusal x)
+unfoldable pub refusalOf : Table → Context → ℕ → ℕ → Happened → ℕ → ℕ → ℕ
+refusalOf table x key identity h octets room =
+    cond (eqb (fitnessRefusal table x) 0) (argumentRefusal key identity (h .number) (h .value) (h .mode) octets room) (fitnessRefusal table x)
 
 -- then the rest.
-unfoldable pub stepOf : Own → List ℕ → ℕ → Context → Happened → List ℕ → Reaction
-stepOf own identity room x h s =
-    let refusal : ℕ = refusalOf x (own .key) (length identity) h (length s) room in
-    cond (eqb refusal 0) (reacted own identity s (reactedTo identity x h s)) (refused refusal x)
+unfoldable pub stepOf : Table → Own → List ℕ → ℕ → Context → Happened → List ℕ → Reaction
+stepOf table own identity room x h s =
+    let refusal : ℕ = refusalOf table x (own .key) (length identity) h (length s) room in
+    cond (eqb refusal 0) (reacted own identity s (reactedTo table identity x h s)) (refused refusal x)
 
 -- The step without its tests, for any arguments: the reply is what the lent buffer takes. Where no test refuses it is the step.
-unfoldable pub takenOf : Own → List ℕ → ℕ → Context → Happened → List ℕ → Reaction
-takenOf own identity room x h s =
-    let taken : Settled = reactedTo identity x h s in
+unfoldable pub takenOf : Table → Own → List ℕ → ℕ → Context → Happened → List ℕ → Reaction
+takenOf table own identity room x h s =
+    let taken : Settled = reactedTo table identity x h s in
     record {
       answer = taken .answer;
       reason = taken .reason;

@@ -1,14 +1,16 @@
 // The step as the host has it: an event as a number with its data, a received message as octets, a reply written into a lent buffer.
-// The context goes in and comes back by value.
+// The context goes in and comes back by value. It goes by the step table that it is given.
 ghost use mathlib.Core.Path.{_≡_};
 ghost use lib.ListN.{length};
 ghost use lib.Seq.{sets};
+ghost use Rattle.version.specs.Version.{newest};
 ghost use Rattle.radio.specs.Step.{eventOf, dueTo, reactedTo, fitnessRefusal, refusalOf, shown, stepOf, takenOf};
 use call::Due;
 use call::Event;
 use context::Context;
 use message::Reference;
 use reply::Own;
+use version::Table;
 
 // An event: its number, and the data that an event may carry. What it does not carry has no effect.
 pub struct Happened {
@@ -66,12 +68,12 @@ fn event_of(number: u32, value: u8, reference: Reference) -> Told
 }
 
 // What is due where an event in range happens.
-fn due_to(context: Context, identity: &[u8], happened: Happened, octets: &[u8]) -> Due
-    ensures { λ r. ⌜ r ≡ dueTo (now (identity .entry)) context happened (now (octets .entry)) ⌝ }
+fn due_to(table: Table, context: Context, identity: &[u8], happened: Happened, octets: &[u8]) -> Due
+    ensures { λ r. ⌜ r ≡ dueTo table (now (identity .entry)) context happened (now (octets .entry)) ⌝ }
 {
     let reference = happened.reference;
     if happened.number == 18 {
-        return received::listen(context, identity, happened.mode, octets);
+        return received::listen(table, context, identity, happened.mode, octets);
     }
     match event_of(happened.number, happened.value, reference) {
         Told::Is(event) => Due::Steps(event),
@@ -80,18 +82,24 @@ fn due_to(context: Context, identity: &[u8], happened: Happened, octets: &[u8]) 
 }
 
 // The step of an event that is in range.
-fn react(context: Context, identity: &[u8], happened: Happened, octets: &[u8]) -> call::Settled
-    ensures { λ r. ⌜ r ≡ reactedTo (now (identity .entry)) context happened (now (octets .entry)) ⌝ }
+fn react(
+    table: Table,
+    context: Context,
+    identity: &[u8],
+    happened: Happened,
+    octets: &[u8],
+) -> call::Settled
+    ensures { λ r. ⌜ r ≡ reactedTo table (now (identity .entry)) context happened (now (octets .entry)) ⌝ }
 {
-    let due = due_to(context, identity, happened, octets);
-    call_step::settle(context, due)
+    let due = due_to(table, context, identity, happened, octets);
+    call_step::settle(table, context, due)
 }
 
 // The first part of a refusal: 7 where the context is not fit, else 0.
-fn fitness_refusal(context: Context) -> u8
-    ensures { λ r. ⌜ r ≡ fitnessRefusal context ⌝ }
+fn fitness_refusal(table: Table, context: Context) -> u8
+    ensures { λ r. ⌜ r ≡ fitnessRefusal table context ⌝ }
 {
-    if !fitness::is_fit(context) {
+    if !fitness::is_fit(table, context) {
         return 7;
     }
     0
@@ -99,6 +107,7 @@ fn fitness_refusal(context: Context) -> u8
 
 // Why a step is refused, in the order of the tests: 7, 5, 6, 4; and 0 where it is not.
 fn refusal(
+    table: Table,
     context: Context,
     key: u8,
     identity: usize,
@@ -106,9 +115,9 @@ fn refusal(
     octets: usize,
     room: usize,
 ) -> u8
-    ensures { λ r. ⌜ r ≡ refusalOf context key identity happened octets room ⌝ }
+    ensures { λ r. ⌜ r ≡ refusalOf table context key identity happened octets room ⌝ }
 {
-    let unfit = fitness_refusal(context);
+    let unfit = fitness_refusal(table, context);
     let number = happened.number;
     let value = happened.value;
     let mode = happened.mode;
@@ -143,6 +152,7 @@ fn refused(context: Context, answer: u8) -> Stepped
 // The step without its tests, for a caller that has made them. The reply is written over the start of `reply`; of a message received `octets` are
 // the octets.
 pub fn take(
+    table: Table,
     context: Context,
     own: Own,
     identity: &[u8],
@@ -150,10 +160,10 @@ pub fn take(
     octets: &[u8],
     reply: &mut [u8],
 ) -> Stepped
-    ensures { λ r. ⌜ (r ≡ shown (takenOf own (now (identity .entry)) (length (now (reply .entry))) context happened (now (octets .entry))))
-        × (now (reply .exit) ≡ sets (now (reply .entry)) 0 (takenOf own (now (identity .entry)) (length (now (reply .entry))) context happened (now (octets .entry)) .reply)) ⌝ }
+    ensures { λ r. ⌜ (r ≡ shown (takenOf table own (now (identity .entry)) (length (now (reply .entry))) context happened (now (octets .entry))))
+        × (now (reply .exit) ≡ sets (now (reply .entry)) 0 (takenOf table own (now (identity .entry)) (length (now (reply .entry))) context happened (now (octets .entry)) .reply)) ⌝ }
 {
-    let taken = react(context, identity, happened, octets);
+    let taken = react(table, context, identity, happened, octets);
     let after = taken.context;
     let sends = taken.sends;
     let count = reply::put(reply, own, identity, octets, after, sends);
@@ -168,8 +178,9 @@ pub fn take(
     }
 }
 
-// The step. The reply is written over the start of `reply`; of a message received `octets` are the octets.
-pub fn step(
+// The step by a table. The reply is written over the start of `reply`; of a message received `octets` are the octets.
+pub fn step_by(
+    table: Table,
     context: Context,
     own: Own,
     identity: &[u8],
@@ -177,10 +188,11 @@ pub fn step(
     octets: &[u8],
     reply: &mut [u8],
 ) -> Stepped
-    ensures { λ r. ⌜ (r ≡ shown (stepOf own (now (identity .entry)) (length (now (reply .entry))) context happened (now (octets .entry))))
-        × (now (reply .exit) ≡ sets (now (reply .entry)) 0 (stepOf own (now (identity .entry)) (length (now (reply .entry))) context happened (now (octets .entry)) .reply)) ⌝ }
+    ensures { λ r. ⌜ (r ≡ shown (stepOf table own (now (identity .entry)) (length (now (reply .entry))) context happened (now (octets .entry))))
+        × (now (reply .exit) ≡ sets (now (reply .entry)) 0 (stepOf table own (now (identity .entry)) (length (now (reply .entry))) context happened (now (octets .entry)) .reply)) ⌝ }
 {
     let answer = refusal(
+        table,
         context,
         own.key,
         identity.len(),
@@ -191,5 +203,28 @@ pub fn step(
     if answer != 0 {
         return refused(context, answer);
     }
-    take(context, own, identity, happened, octets, reply)
+    take(table, context, own, identity, happened, octets, reply)
+}
+
+// The step: by the newest table.
+pub fn step(
+    context: Context,
+    own: Own,
+    identity: &[u8],
+    happened: Happened,
+    octets: &[u8],
+    reply: &mut [u8],
+) -> Stepped
+    ensures { λ r. ⌜ (r ≡ shown (stepOf newest own (now (identity .entry)) (length (now (reply .entry))) context happened (now (octets .entry))))
+        × (now (reply .exit) ≡ sets (now (reply .entry)) 0 (stepOf newest own (now (identity .entry)) (length (now (reply .entry))) context happened (now (octets .entry)) .reply)) ⌝ }
+{
+    step_by(
+        version::NEWEST,
+        context,
+        own,
+        identity,
+        happened,
+        octets,
+        reply,
+    )
 }

@@ -45,12 +45,13 @@ use Rattle.message.specs.Reading.{
   readAs,
   readMessage,
 }
+use Rattle.version.specs.declared.Table.{Table}
 use Rattle.context.specs.declared.Context.{Context}
 use Rattle.context.specs.States.{same}
 use Rattle.transitions.specs.declared.Decision.the-variants.{Report}
 use Rattle.transitions.specs.Table.{stepTable, decidedIn, decidedBy, decidedOf}
 use Rattle.transitions.proofs.Types.{types, no-type}
-use Rattle.transitions.proofs.Sound.{document-01}
+use Rattle.transitions.proofs.Sound.{rows-sound}
 use Rattle.received.specs.Received.{causeIn, typeCause}
 use Rattle.received.proofs.Rules.{Ours}
 
@@ -95,15 +96,15 @@ bodies s kind =
     )
 
 -- A type that is not of table 9.1 is reported with 97 in every state but U0.
-unknown : (s : List ℕ) (x : Context) (code : ℕ) → same (x .state) U0 ≡ false → Absent code (kinds s) → decidedOf x 18 code ≡ Report 97
+unknown : (table : Table) (s : List ℕ) (x : Context) (code : ℕ) → same (x .state) U0 ≡ false → Absent code (kinds s) → decidedOf table x 18 code ≡ Report 97
 unfolding decidedBy decidedIn
-unknown s x code u a = sym (no-type (x .state) x code (other code false types a) stepTable (document-01 .types-known) u)
+unknown table s x code u a = sym (no-type (x .state) x code (other code false types a) (stepTable table) (rows-sound table .types-known) u)
 
-module _ (x : Context) (s : List ℕ) (ours : Ours x s) (none : typeCause x (getD s 1 0) ≡ 0) where
+module _ (table : Table) (x : Context) (s : List ℕ) (ours : Ours x s) (none : typeCause table x (getD s 1 0) ≡ 0) where
   apart : (n : ℕ) → n ≡ 97 → n ≡ 0 → ⊥
   apart n a b = omega arith
 
-  high : leb 128 (getD s 1 0) ≡ true → typeCause x (getD s 1 0) ≡ 97
+  high : leb 128 (getD s 1 0) ≡ true → typeCause table x (getD s 1 0) ≡ 97
   unfolding typeCause
   high e = rw e
 
@@ -111,14 +112,14 @@ module _ (x : Context) (s : List ℕ) (ours : Ours x s) (none : typeCause x (get
   low = go (leb 128 (getD s 1 0)) refl
     where
       go : (t : Bool) → leb 128 (getD s 1 0) ≡ t → t ≡ false
-      go true e = elim (apart (typeCause x (getD s 1 0)) (high e) none) [ ]
+      go true e = elim (apart (typeCause table x (getD s 1 0)) (high e) none) [ ]
       go false e = refl
 
   typed : Absent (getD s 1 0 % 64) (kinds s) → ⊥
   unfolding typeCause causeIn
   typed a =
-      apart (typeCause x (getD s 1 0))
-      (rw (low, unknown s x (getD s 1 0 % 64) (ours .calling) a)) none
+      apart (typeCause table x (getD s 1 0))
+      (rw (low, unknown table s x (getD s 1 0 % 64) (ours .calling) a)) none
 
   read-as : (flag : Bool) (value : ℕ) (b : Body) → FourBody b → Four (readAs flag value b)
   read-as flag value (Is message) p = p

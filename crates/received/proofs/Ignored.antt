@@ -13,13 +13,14 @@ use Rattle.message.specs.declared.Message.{Message}
 use Rattle.message.specs.declared.Reading.{Reading}
 use Rattle.message.specs.declared.Reading.the-variants.{Is, Unreadable, TooLong}
 use Rattle.message.specs.Reading.{readMessage}
+use Rattle.version.specs.declared.Table.{Table}
 use Rattle.context.specs.declared.Context.{Context}
 use Rattle.context.specs.States.{same, flagOf}
-use Rattle.fitness.specs.First.{firstFitness, consistent}
+use Rattle.fitness.specs.Tables.{fitnessOf, consistent}
 use Rattle.transitions.specs.declared.Decision.{Decision}
 use Rattle.transitions.specs.declared.Decision.the-variants.{Take, NoStep, Ignore, Report, TellStatus, SetParameters}
 use Rattle.transitions.specs.Table.{stepTable, decidedOf}
-use Rattle.transitions.proofs.Sound.{document-01}
+use Rattle.transitions.proofs.Sound.{rows-sound}
 use Rattle.transitions.proofs.Decided.{Listens, decided-listens}
 use Rattle.call.specs.declared.Due.the-variants.{Steps}
 use Rattle.call.specs.declared.Event.the-variants.{Received}
@@ -64,7 +65,7 @@ module _ (holds : Reason → Bool) where
 
 -- ---- the rules
 
-module _ (x : Context) where
+module _ (table : Table) (x : Context) where
   -- Where a STATUS is due and COMM is false.
   abbrev unsaid : Bool → ℕ
   unsaid due = cond (not (x .parameters .comm) && due) (reasonNumber CommFalse) 0
@@ -77,7 +78,7 @@ module _ (x : Context) where
   reported-reason cause = split (x .parameters .comm) (λ c. rw c) (λ c. rw c)
 
   carried-reason : (d : Decision) (e : Seen) → Listens d
-      → carriedOut firstFitness x d e .reason ≡ unsaid (tellsBy x (e .attributes) d)
+      → carriedOut (fitnessOf table) x d e .reason ≡ unsaid (tellsBy table x (e .attributes) d)
   unfolding carriedOut noStep ignored statusTold parametersSet tellsBy
   carried-reason (Take d) e l = nothing-due
   carried-reason NoStep e l = nothing-due
@@ -85,32 +86,32 @@ module _ (x : Context) where
   carried-reason (Report cause) e l = reported-reason cause
   carried-reason TellStatus e l = split (x .parameters .comm) (λ c. rw c) (λ c. rw c)
   carried-reason SetParameters e l =
-      split (consistent (x .state) (parametersOf (e .attributes)))
+      split (consistent table (x .state) (parametersOf (e .attributes)))
       (λ f. rw f nothing-due)
       (λ f. rw f (reported-reason 98))
 
   -- Rules 3 to 6.
   read-reason : (identity : List ℕ) (mode : ℕ) (s : List ℕ) → same (x .state) U0 ≡ false → (r : Reading)
-      → settled x (readingDue (understoodDue identity mode s) r) .reason
-      ≡ cond (namesOther identity mode s r) (reasonNumber OtherIdentity) (unsaid (wantsStatus x r))
+      → settled table x (readingDue (understoodDue identity mode s) r) .reason
+      ≡ cond (namesOther identity mode s r) (reasonNumber OtherIdentity) (unsaid (wantsStatus table x r))
   unfolding settledBy readingDue understoodDue namesOther wantsStatus ignored stepBy seenOf
   read-reason identity mode s calling (Is flag value m) =
       split (eqb mode 1 && isOther identity s (askedOf m .identity)) (λ e. rw e)
       (λ e. rw e
       (split (askedOf m .disowns) (λ d. rw d (reported-reason 95))
-      (λ d. rw d (carried-reason _ (seenMessage m) (decided-listens firstFitness 63 stepTable document-01 x calling (seenMessage m .number) (seenMessage m .code))))))
+      (λ d. rw d (carried-reason _ (seenMessage m) (decided-listens (fitnessOf table) 63 (stepTable table) (rows-sound table) x calling (seenMessage m .number) (seenMessage m .code))))))
   read-reason identity mode s calling (Unreadable fault) = reported-reason 96
   read-reason identity mode s calling TooLong = reported-reason 96
 
   -- All six: the reason is the first whose condition holds.
-  pub reason-first : (identity : List ℕ) (mode : ℕ) (s : List ℕ) → settled x (dueOf identity x mode s) .reason ≡ firstIn (holdsOf identity x mode s) inOrder
+  pub reason-first : (identity : List ℕ) (mode : ℕ) (s : List ℕ) → settled table x (dueOf table identity x mode s) .reason ≡ firstIn (holdsOf table identity x mode s) inOrder
   unfolding settledBy dueOf ignored firstIn holdsOf
   reason-first identity mode s =
       split (same (x .state) U0) (λ a. rw a)
       (λ a. rw a (split (ltb (length s) 2) (λ b. rw b)
       (λ b. rw b (split (eqb (getD s 0 0 % 16) discriminator)
       (λ c. rw c (split (transactionIs (flagOf x) (x .value) (getD s 0 0))
-      (λ d. rw d (split (eqb (typeCause x (getD s 1 0)) 0) (λ t. rw t (read-reason identity mode s a (readMessage s)))
+      (λ d. rw d (split (eqb (typeCause table x (getD s 1 0)) 0) (λ t. rw t (read-reason identity mode s a (readMessage s)))
       (λ t. rw t (reported-reason _))))
       (λ d. rw d)))
       (λ c. rw c)))))

@@ -18,6 +18,7 @@ use Rattle.message.specs.declared.Reading.{Reading}
 use Rattle.message.specs.declared.Reading.the-variants.{Is, Unreadable, TooLong}
 use Rattle.message.specs.Content.{runOctets}
 use Rattle.message.specs.Reading.{readMessage}
+use Rattle.version.specs.declared.Table.{Table}
 use Rattle.context.specs.declared.Context.{Context}
 use Rattle.context.specs.States.{same, flagOf}
 use Rattle.call.specs.declared.Due.{Due}
@@ -44,21 +45,21 @@ pub record Ours (x : Context) (s : List ℕ) : Type 0 where
   pub transacted : transactionIs (flagOf x) (x .value) (getD s 0 0) ≡ true
 
 -- What is left after rule 1 goes by the type, and after rule 2 by what reading gives.
-module _ (identity : List ℕ) (x : Context) (mode : ℕ) (s : List ℕ) (ours : Ours x s) where
-  pub due-typed : (cause : ℕ) → cause ≡ typeCause x (getD s 1 0) → (cause ≡ 0 → ⊥) → Reported cause ≡ dueOf identity x mode s
+module _ (table : Table) (identity : List ℕ) (x : Context) (mode : ℕ) (s : List ℕ) (ours : Ours x s) where
+  pub due-typed : (cause : ℕ) → cause ≡ typeCause table x (getD s 1 0) → (cause ≡ 0 → ⊥) → Reported cause ≡ dueOf table identity x mode s
   unfolding dueOf
   due-typed cause e n = rw (ours .calling, ours .two, ours .broadcast, ours .transacted, ← e, ne-eqb cause 0 n)
 
-  module _ (none : typeCause x (getD s 1 0) ≡ 0) (r : Due) where
-    pub due-read : (flag : Bool) (value : ℕ) (m : Message) → readMessage s ≡ Is flag value m → r ≡ understoodDue identity mode s m → r ≡ dueOf identity x mode s
+  module _ (none : typeCause table x (getD s 1 0) ≡ 0) (r : Due) where
+    pub due-read : (flag : Bool) (value : ℕ) (m : Message) → readMessage s ≡ Is flag value m → r ≡ understoodDue identity mode s m → r ≡ dueOf table identity x mode s
     unfolding dueOf readingDue
     due-read flag value m e p = rw (ours .calling, ours .two, ours .broadcast, ours .transacted, none, e) p
 
-    pub due-wrong : (fault : Fault) → readMessage s ≡ Unreadable fault → r ≡ Reported 96 → r ≡ dueOf identity x mode s
+    pub due-wrong : (fault : Fault) → readMessage s ≡ Unreadable fault → r ≡ Reported 96 → r ≡ dueOf table identity x mode s
     unfolding dueOf readingDue
     due-wrong fault e p = rw (ours .calling, ours .two, ours .broadcast, ours .transacted, none, e) p
 
-    pub due-long : readMessage s ≡ TooLong → r ≡ Reported 96 → r ≡ dueOf identity x mode s
+    pub due-long : readMessage s ≡ TooLong → r ≡ Reported 96 → r ≡ dueOf table identity x mode s
     unfolding dueOf readingDue
     due-long e p = rw (ours .calling, ours .two, ours .broadcast, ours .transacted, none, e) p
 
@@ -76,12 +77,12 @@ module _ (P : Due → Type 0) (ignored : (reason : Reason) → P (Ignored reason
   every-read identity mode s (Unreadable fault) = reported 96
   every-read identity mode s TooLong = reported 96
 
-  pub every-due : (identity : List ℕ) (x : Context) (mode : ℕ) (s : List ℕ) → P (dueOf identity x mode s)
+  pub every-due : (table : Table) (identity : List ℕ) (x : Context) (mode : ℕ) (s : List ℕ) → P (dueOf table identity x mode s)
   unfolding dueOf
-  every-due identity x mode s =
+  every-due table identity x mode s =
       at-cond P (same (x .state) U0) _ _ (λ e. ignored _)
       (λ e. at-cond P (ltb (length s) 2) _ _ (λ e. ignored _)
       (λ e. at-cond P (not (eqb (getD s 0 0 % 16) discriminator)) _ _ (λ e. ignored _)
       (λ e. at-cond P (not (transactionIs (flagOf x) (x .value) (getD s 0 0))) _ _ (λ e. ignored _)
-      (λ e. at-cond P (not (eqb (typeCause x (getD s 1 0)) 0)) _ _ (λ e. reported (typeCause x (getD s 1 0)))
+      (λ e. at-cond P (not (eqb (typeCause table x (getD s 1 0)) 0)) _ _ (λ e. reported (typeCause table x (getD s 1 0)))
       (λ e. every-read identity mode s (readMessage s))))))

@@ -10,6 +10,7 @@ use Rattle.message.specs.declared.Message.{Message}
 use Rattle.message.specs.declared.Reading.{Reading}
 use Rattle.message.specs.declared.Reading.the-variants.{Is, Unreadable, TooLong}
 use Rattle.message.specs.Reading.{readMessage}
+use Rattle.version.specs.declared.Table.{Table}
 use Rattle.context.specs.declared.Context.{Context}
 use Rattle.context.specs.States.{same, flagOf}
 use Rattle.call.specs.declared.Due.{Due}
@@ -36,14 +37,14 @@ readingDue go (Unreadable fault) = Reported 96
 readingDue go TooLong = Reported 96
 
 -- The six rules in their order.
-unfoldable pub dueOf : List ℕ → Context → ℕ → List ℕ → Due
-dueOf identity x mode s =
+unfoldable pub dueOf : Table → List ℕ → Context → ℕ → List ℕ → Due
+dueOf table identity x mode s =
     -- 1. U0, under 2 octets, low four bits of octet 1 not 1, or transaction mismatch: ignored.
     cond (same (x .state) U0) (Ignored NoCall)
     (cond (ltb (length s) 2) (Ignored TooShort)
     (cond (not (eqb (getD s 0 0 % 16) discriminator)) (Ignored OtherProtocol)
     (cond (not (transactionIs (flagOf x) (x .value) (getD s 0 0))) (Ignored TransactionMismatch)
     -- 2. Unknown type: reported. A type with no row or sentence above in this state, or one the MS sends: reported as not compatible with the state.
-    (cond (not (eqb (typeCause x (getD s 1 0)) 0)) (Reported (typeCause x (getD s 1 0)))
+    (cond (not (eqb (typeCause table x (getD s 1 0)) 0)) (Reported (typeCause table x (getD s 1 0)))
     -- 3. to 6.
     (readingDue (understoodDue identity mode s) (readMessage s))))))

@@ -11,9 +11,10 @@ use Rattle.codes.specs.Attributes.{parametersOf}
 use Rattle.message.specs.declared.Reading.{Reading}
 use Rattle.message.specs.declared.Reading.the-variants.{Is, Unreadable, TooLong}
 use Rattle.message.specs.Reading.{readMessage}
+use Rattle.version.specs.declared.Table.{Table}
 use Rattle.context.specs.declared.Context.{Context}
 use Rattle.context.specs.States.{same, flagOf}
-use Rattle.fitness.specs.First.{consistent}
+use Rattle.fitness.specs.Tables.{consistent}
 use Rattle.transitions.specs.declared.Decision.{Decision}
 use Rattle.transitions.specs.declared.Decision.the-variants.{Take, NoStep, Ignore, Report, TellStatus, SetParameters}
 use Rattle.transitions.specs.Table.{decidedOf}
@@ -31,29 +32,29 @@ namesOther identity mode s (Unreadable fault) = false
 namesOther identity mode s TooLong = false
 
 -- What the table decides is done by a STATUS: a report, GET STATUS, a SET PARAMETER whose values are inconsistent.
-unfoldable pub tellsBy : Context → ℕ → Decision → Bool
-tellsBy x attributes (Take taken) = false
-tellsBy x attributes NoStep = false
-tellsBy x attributes Ignore = false
-tellsBy x attributes (Report cause) = true
-tellsBy x attributes TellStatus = true
-tellsBy x attributes SetParameters = not (consistent (x .state) (parametersOf attributes))
+unfoldable pub tellsBy : Table → Context → ℕ → Decision → Bool
+tellsBy table x attributes (Take taken) = false
+tellsBy table x attributes NoStep = false
+tellsBy table x attributes Ignore = false
+tellsBy table x attributes (Report cause) = true
+tellsBy table x attributes TellStatus = true
+tellsBy table x attributes SetParameters = not (consistent table (x .state) (parametersOf attributes))
 
 -- A STATUS is due to a message: it can't be read (rule 3), is a CONNECT that doesn't name us (rule 5), or the table decides so.
-unfoldable pub wantsStatus : Context → Reading → Bool
-wantsStatus x (Is flag value message) =
-    let e : Seen = seenMessage message in (mustNameUs && askedOf message .disowns) || tellsBy x (e .attributes) (decidedOf x (e .number) (e .code))
-wantsStatus x (Unreadable fault) = true
-wantsStatus x TooLong = true
+unfoldable pub wantsStatus : Table → Context → Reading → Bool
+wantsStatus table x (Is flag value message) =
+    let e : Seen = seenMessage message in (mustNameUs && askedOf message .disowns) || tellsBy table x (e .attributes) (decidedOf table x (e .number) (e .code))
+wantsStatus table x (Unreadable fault) = true
+wantsStatus table x TooLong = true
 
 -- The condition of each reason.
-unfoldable pub holdsOf : List ℕ → Context → ℕ → List ℕ → Reason → Bool
-holdsOf identity x mode s NoCall = same (x .state) U0
-holdsOf identity x mode s TooShort = ltb (length s) 2
-holdsOf identity x mode s OtherProtocol = not (eqb (getD s 0 0 % 16) discriminator)
-holdsOf identity x mode s TransactionMismatch = not (transactionIs (flagOf x) (x .value) (getD s 0 0))
-holdsOf identity x mode s OtherIdentity = eqb (typeCause x (getD s 1 0)) 0 && namesOther identity mode s (readMessage s)
-holdsOf identity x mode s CommFalse = not (x .parameters .comm) && (not (eqb (typeCause x (getD s 1 0)) 0) || wantsStatus x (readMessage s))
+unfoldable pub holdsOf : Table → List ℕ → Context → ℕ → List ℕ → Reason → Bool
+holdsOf table identity x mode s NoCall = same (x .state) U0
+holdsOf table identity x mode s TooShort = ltb (length s) 2
+holdsOf table identity x mode s OtherProtocol = not (eqb (getD s 0 0 % 16) discriminator)
+holdsOf table identity x mode s TransactionMismatch = not (transactionIs (flagOf x) (x .value) (getD s 0 0))
+holdsOf table identity x mode s OtherIdentity = eqb (typeCause table x (getD s 1 0)) 0 && namesOther identity mode s (readMessage s)
+holdsOf table identity x mode s CommFalse = not (x .parameters .comm) && (not (eqb (typeCause table x (getD s 1 0)) 0) || wantsStatus table x (readMessage s))
 
 -- Where several hold, the order of the rules decides, with "no call" first.
 abbrev pub inOrder : List Reason

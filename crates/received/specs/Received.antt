@@ -20,6 +20,7 @@ use Rattle.message.specs.declared.Message.the-variants.{
 }
 use Rattle.message.specs.Content.{runOctets}
 use Rattle.message.specs.Tables.{transaction}
+use Rattle.version.specs.declared.Table.{Table}
 use Rattle.context.specs.declared.Context.{Context}
 use Rattle.transitions.specs.declared.Decision.{Decision}
 use Rattle.transitions.specs.declared.Decision.the-variants.{Take, NoStep, Ignore, Report, TellStatus, SetParameters}
@@ -41,8 +42,8 @@ causeIn SetParameters = 0
 
 -- Rule 2: the cause that a type octet is reported with: 97 for an unknown type, 98 for a type with no row or sentence in this state, or one the MS sends;
 -- 0 where it is neither. Type bit 7 is read as anything.
-unfoldable pub typeCause : Context → ℕ → ℕ
-typeCause x kind = cond (leb 128 kind) 97 (causeIn (decidedOf x 18 (kind % 64)))
+unfoldable pub typeCause : Table → Context → ℕ → ℕ
+typeCause table x kind = cond (leb 128 kind) 97 (causeIn (decidedOf table x 18 (kind % 64)))
 
 abbrev asks : Identity → Bool → Asked
 asks identity disowns = record { identity = identity; disowns = disowns }

@@ -14,6 +14,7 @@ use message::Identity;
 use message::Message;
 use message::Reading;
 use transitions::Decision;
+use version::Table;
 
 // Whether octet 1 carries the flag and the value in its upper half.
 fn transaction_is(flag: bool, value: u8, first: u8) -> bool
@@ -42,13 +43,13 @@ fn cause_in(decision: Decision) -> u8
 }
 
 // Rule 2: the cause that a type octet is reported with, and 0 where the type has a row or a sentence in the context's state.
-fn type_cause(context: Context, kind: u8) -> u8
-    ensures { λ r. ⌜ r ≡ typeCause context kind ⌝ }
+fn type_cause(table: Table, context: Context, kind: u8) -> u8
+    ensures { λ r. ⌜ r ≡ typeCause table context kind ⌝ }
 {
     if 128 <= kind {
         return 97;
     }
-    let decision = message_rows::decide(context, kind % 64);
+    let decision = message_rows::decide(table, context, kind % 64);
     cause_in(decision)
 }
 
@@ -135,8 +136,8 @@ fn understand(identity: &[u8], mode: u8, octets: &[u8], message: Message) -> Due
 }
 
 // What is due to a message by the six rules.
-pub fn listen(context: Context, identity: &[u8], mode: u8, octets: &[u8]) -> Due
-    ensures { λ r. ⌜ r ≡ dueOf (now (identity .entry)) context mode (now (octets .entry)) ⌝ }
+pub fn listen(table: Table, context: Context, identity: &[u8], mode: u8, octets: &[u8]) -> Due
+    ensures { λ r. ⌜ r ≡ dueOf table (now (identity .entry)) context mode (now (octets .entry)) ⌝ }
 {
     let state = context.state;
     if context::state_number(state) == 0 {
@@ -153,7 +154,7 @@ pub fn listen(context: Context, identity: &[u8], mode: u8, octets: &[u8]) -> Due
     if !transaction_is(flag, context.value, first) {
         return Due::Ignored(Reason::TransactionMismatch);
     }
-    let cause = type_cause(context, octets[1]);
+    let cause = type_cause(table, context, octets[1]);
     if cause != 0 {
         return Due::Reported(cause);
     }

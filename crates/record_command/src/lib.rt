@@ -17,7 +17,6 @@ use text::output::put;
 use text::words::Words;
 use text::words::finished;
 use text::words::part;
-use version::Table;
 
 // The greatest number that a word may have.
 const MOST: u64 = 4294967295;
@@ -181,7 +180,7 @@ fn say_recorded(
     let mut reply = [0u8; 256];
     let replied = first_octets(octets, sent.start, sent.count, &mut reply);
     let recorded = recorder::record_entry(
-        Table::First,
+        version::NEWEST,
         &mut octets[0..size],
         used,
         happened,

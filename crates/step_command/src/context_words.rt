@@ -1,8 +1,10 @@
-// A context in the probe's five words: STATE PARAMS TIMERS TV REF.
+// A context in the probe's six words: STATE PARAMS TIMERS TV REF FROM.
 ghost use Prim.Native.Nat.{_≤_};
 use codes::attributes::Parameters;
 use codes::state::State;
 use context::Context;
+use context::Remembered;
+use context::remembered_number;
 use context::state_number;
 use fields::words::reference_word;
 use fields::words::small_word;
@@ -14,13 +16,14 @@ use text::output::Output;
 use text::words::Words;
 use timer::Timers;
 
-// The words as numbers. A state's number may be over 7.
+// The words as numbers: a state's may be over 7, and that of the state which a termination was asked from be any.
 pub(crate) struct Lent {
     pub state: u8,
     pub parameters: u8,
     pub timers: u8,
     pub value: u8,
     pub reference: Reference,
+    pub from: u8,
 }
 
 pub(crate) struct LentWord {
@@ -28,13 +31,18 @@ pub(crate) struct LentWord {
     pub words: Words,
 }
 
-pub(crate) enum StateTold {
+pub(crate) enum Told {
     Is(Context),
-    NoState,
+    NoContext,
 }
 
 enum Numbered {
     Is(State),
+    NoState,
+}
+
+enum Asked {
+    Is(Remembered),
     NoState,
 }
 
@@ -48,14 +56,17 @@ pub(crate) fn lent_context(line: &[u8], words: Words) -> LentWord {
     let value = small_word(line, timers_words, 255);
     let value_words = value.words;
     let call = reference_word(line, value_words);
-    let next = call.words;
+    let call_words = call.words;
     let reference = call.reference;
+    let from = small_word(line, call_words, 255);
+    let next = from.words;
     let lent = Lent {
         state: state.value,
         parameters: parameters.value,
         timers: timers.value,
         value: value.value,
         reference,
+        from: from.value,
     };
     LentWord { lent, words: next }
 }
@@ -71,6 +82,16 @@ fn state_of(number: u8) -> Numbered {
         6 => Numbered::Is(State::U5),
         7 => Numbered::Is(State::U6),
         8..=255 => Numbered::NoState,
+    }
+}
+
+// The state that a termination was asked from, 0 for none. It is asked from U1 and U2 alone.
+fn asked_of(number: u8) -> Asked {
+    match number {
+        0 => Asked::Is(Remembered::Nothing),
+        2 => Asked::Is(Remembered::U1),
+        3 => Asked::Is(Remembered::U2),
+        _ => Asked::NoState,
     }
 }
 
@@ -94,21 +115,24 @@ fn timers_of(number: u8) -> Timers {
     }
 }
 
-pub(crate) fn state_told(lent: Lent) -> StateTold {
+pub(crate) fn context_told(lent: Lent) -> Told {
+    let Numbered::Is(state) = state_of(lent.state) else {
+        return Told::NoContext;
+    };
+    let Asked::Is(remembered) = asked_of(lent.from) else {
+        return Told::NoContext;
+    };
     let parameters = parameters_of(lent.parameters);
     let timers = timers_of(lent.timers);
     let reference = lent.reference;
-    let value = lent.value;
-    match state_of(lent.state) {
-        Numbered::Is(state) => StateTold::Is(Context {
-            state,
-            parameters,
-            timers,
-            value,
-            reference,
-        }),
-        Numbered::NoState => StateTold::NoState,
-    }
+    Told::Is(Context {
+        state,
+        parameters,
+        timers,
+        value: lent.value,
+        reference,
+        remembered,
+    })
 }
 
 // The weight of a bit that is set.
@@ -130,6 +154,7 @@ pub(crate) fn say_context(buffer: &mut [u8], output: Output, context: Context) -
     let parameters = context.parameters;
     let timers = context.timers;
     let reference = context.reference;
+    let remembered = context.remembered;
     let number = state_number(state);
     let lent = Lent {
         state: (number % 256) as u8,
@@ -142,6 +167,7 @@ pub(crate) fn say_context(buffer: &mut [u8], output: Output, context: Context) -
         timers: four(timers.mmest, timers.term, timers.connreq, timers.nochannel),
         value: context.value,
         reference,
+        from: remembered_number(remembered),
     };
     say_lent(buffer, output, lent)
 }
@@ -168,5 +194,7 @@ pub(crate) fn say_lent(buffer: &mut [u8], output: Output, lent: Lent) -> Output 
         reference.fourth,
     ];
     let numbers = say_numbers(buffer, output, lent);
-    say_hex(buffer, numbers, &octets)
+    let call = say_hex(buffer, numbers, &octets);
+    let space = say(buffer, call, b" ");
+    say_number(buffer, space, lent.from)
 }

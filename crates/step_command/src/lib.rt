@@ -5,11 +5,11 @@ mod context_words;
 
 use context::Context;
 use context_words::Lent;
-use context_words::StateTold;
+use context_words::Told;
+use context_words::context_told;
 use context_words::lent_context;
 use context_words::say_context;
 use context_words::say_lent;
-use context_words::state_told;
 use fields::malformed;
 use fields::words::number_word;
 use fields::words::octets_word;
@@ -135,7 +135,7 @@ pub fn answer_step(
     )
 }
 
-// A state's number over 7 is no state, so the context is not fit.
+// Numbers that are no context are as a context that is not fit: they come back as they were given.
 fn say_step(
     buffer: &mut [u8],
     output: Output,
@@ -148,8 +148,8 @@ fn say_step(
 ) -> Output
     requires { ⌜ room ≤ 255 ⌝ }
 {
-    match state_told(lent) {
-        StateTold::Is(context) => {
+    match context_told(lent) {
+        Told::Is(context) => {
             say_stepped(
                 buffer,
                 output,
@@ -161,7 +161,7 @@ fn say_step(
                 room,
             )
         }
-        StateTold::NoState => {
+        Told::NoContext => {
             let answer = say(buffer, output, b"7 ");
             let same = say_lent(buffer, answer, lent);
             say(buffer, same, b" 0 - 0\n")

@@ -1,3 +1,4 @@
 pub mod Coincide
 pub mod Laws
 pub mod Steps
+pub mod Older

@@ -9,6 +9,7 @@ use Rattle.octets.specs.Run.{part}
 use Rattle.element.specs.declared.Run.{Run}
 use Rattle.reply.specs.declared.Own.{Own}
 use Rattle.context.specs.declared.Context.{Context}
+use Rattle.version.specs.Version.{newest}
 use Rattle.radio.specs.declared.Happened.{Happened}
 use Rattle.radio.specs.declared.Stepped.{Stepped}
 use Rattle.radio.specs.Step.{Reaction, shown, stepOf}
@@ -21,27 +22,27 @@ use Rattle.step_numbers.specs.Stepping.{Comes, callFrom, callOf, callOn,
 
 -- The step by value: a part from a start to an end is the run.
 module _ (own : Own) (s d : List ℕ) (start count : ℕ) (x : Context) (e : Event) (h : Happened) (m : List ℕ) (a : h ≡ happenedOf e) where
-  same : stepOf own (part s start (start + count - start)) (length d) x h m ≡ stepOf own (part s start count) (length d) x (happenedOf e) m
+  same : stepOf newest own (part s start (start + count - start)) (length d) x h m ≡ stepOf newest own (part s start count) (length d) x (happenedOf e) m
   same = let n : start + count - start ≡ count = omega arith in rw (a, n)
 
-  pub stepped-run : (r : Stepped) (after : List ℕ) → r ≡ shown (stepOf own (part s start (start + count - start)) (length d) x h m)
-      → after ≡ sets d 0 (stepOf own (part s start (start + count - start)) (length d) x h m .reply)
-      → (r ≡ shown (stepOf own (part s start count) (length d) x (happenedOf e) m))
-      × (after ≡ sets d 0 (stepOf own (part s start count) (length d) x (happenedOf e) m .reply))
+  pub stepped-run : (r : Stepped) (after : List ℕ) → r ≡ shown (stepOf newest own (part s start (start + count - start)) (length d) x h m)
+      → after ≡ sets d 0 (stepOf newest own (part s start (start + count - start)) (length d) x h m .reply)
+      → (r ≡ shown (stepOf newest own (part s start count) (length d) x (happenedOf e) m))
+      × (after ≡ sets d 0 (stepOf newest own (part s start count) (length d) x (happenedOf e) m .reply))
   stepped-run r after p q = (p ∙ ap shown same, q ∙ ap (λ (z : Reaction). sets d 0 (z .reply)) same)
 
 -- From a context that was read.
 module _ (s d : List ℕ) (x : Context) (e : Event) (m : List ℕ) (own : Own) (run : Run) (o : own ≡ ownOf s) (u : run ≡ identityRun s) where
-  same-from : stepOf own (part s (run .start) (run .count)) (length d) x (happenedOf e) m ≡ stepOf (ownOf s) (identityOf s) (length d) x (happenedOf e) m
+  same-from : stepOf newest own (part s (run .start) (run .count)) (length d) x (happenedOf e) m ≡ stepOf newest (ownOf s) (identityOf s) (length d) x (happenedOf e) m
   same-from = rw (o, u)
 
-  pub call-from : (come : Stepped) (after : List ℕ) → come ≡ shown (stepOf own (part s (run .start) (run .count)) (length d) x (happenedOf e) m)
-      → after ≡ sets d 0 (stepOf own (part s (run .start) (run .count)) (length d) x (happenedOf e) m .reply)
+  pub call-from : (come : Stepped) (after : List ℕ) → come ≡ shown (stepOf newest own (part s (run .start) (run .count)) (length d) x (happenedOf e) m)
+      → after ≡ sets d 0 (stepOf newest own (part s (run .start) (run .count)) (length d) x (happenedOf e) m .reply)
       → (octets : List ℕ) → octets ≡ octetsOf (come .context) → (r : Step) → r ≡ stepShown (come .outcome)
       → Comes (callFrom s (length d) e m x) d r octets after
   unfolding callFrom called
   call-from come after p q octets w r v =
-      let k : come ≡ shown (stepOf (ownOf s) (identityOf s) (length d) x (happenedOf e) m) = p ∙ ap shown same-from in (
+      let k : come ≡ shown (stepOf newest (ownOf s) (identityOf s) (length d) x (happenedOf e) m) = p ∙ ap shown same-from in (
         v ∙ ap (λ (z : Stepped). stepShown (z .outcome)) k,
         w ∙ ap (λ (z : Stepped). octetsOf (z .context)) k,
         q ∙ ap (λ (z : Reaction). sets d 0 (z .reply)) same-from,

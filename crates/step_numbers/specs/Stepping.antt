@@ -5,6 +5,7 @@ use mathlib.Core.List.{List, []}
 use lib.ListN.{length}
 use lib.Seq.{sets}
 use Rattle.context.specs.declared.Context.{Context}
+use Rattle.version.specs.Version.{newest}
 use Rattle.radio.specs.declared.Happened.{Happened}
 use Rattle.radio.specs.declared.Outcome.{Outcome}
 use Rattle.radio.specs.Step.{Reaction, shown, stepOf}
@@ -44,7 +45,7 @@ called r = record { step = stepShown (shown r .outcome); context = octetsOf (r .
 
 -- The call where the sixteen octets are a context.
 unfoldable pub callFrom : (settings : List ℕ) (room : ℕ) → Event → (message : List ℕ) → Context → Call
-callFrom s room e m x = called (stepOf (ownOf s) (identityOf s) room x (happenedOf e) m)
+callFrom s room e m x = called (stepOf newest (ownOf s) (identityOf s) room x (happenedOf e) m)
 
 -- Answer 7 and nothing changed, where they are none.
 abbrev pub noCall : List ℕ → Call

@@ -5,6 +5,7 @@ ghost use lib.ListN.{length};
 ghost use lib.Seq.{sets};
 ghost use Rattle.octets.specs.Run.{part};
 ghost use Rattle.context.specs.Context.{cleared};
+ghost use Rattle.version.specs.Version.{newest};
 ghost use Rattle.radio.specs.Step.{shown, stepOf};
 ghost use Rattle.context_octets.specs.Octets.{octetsOf};
 ghost use Rattle.step_numbers.specs.Stepping.{Comes, callFrom, callOf, happenedOf, stepShown};
@@ -84,8 +85,8 @@ fn stepped(
     reply: &mut [u8],
 ) -> Stepped
     requires { ⌜ run .start + run .count ≤ length (now settings) ⌝ }
-    ensures { λ r. ⌜ r ≡ shown (stepOf own (part (now (settings .entry)) (run .start) (run .count)) (length (now (reply .entry))) context (happenedOf event) (now (message .entry))) ⌝ }
-    ensures { λ _. ⌜ now (reply .exit) ≡ sets (now (reply .entry)) 0 (stepOf own (part (now (settings .entry)) (run .start) (run .count)) (length (now (reply .entry))) context (happenedOf event) (now (message .entry)) .reply) ⌝ }
+    ensures { λ r. ⌜ r ≡ shown (stepOf newest own (part (now (settings .entry)) (run .start) (run .count)) (length (now (reply .entry))) context (happenedOf event) (now (message .entry))) ⌝ }
+    ensures { λ _. ⌜ now (reply .exit) ≡ sets (now (reply .entry)) 0 (stepOf newest own (part (now (settings .entry)) (run .start) (run .count)) (length (now (reply .entry))) context (happenedOf event) (now (message .entry)) .reply) ⌝ }
 {
     let start = run.start;
     let end = start + run.count;

@@ -23,7 +23,6 @@ use log::read_entry;
 use log_words::entry::write_clock;
 use saying::write_long;
 use saying::write_text;
-use version::Table;
 
 // A picture that would grow longer than this ends with a whole band: 6 m, which still opens in every viewer.
 const LONGEST: u64 = 24000;
@@ -213,7 +212,8 @@ fn draw_entries(
 }
 
 fn draw_entry(descriptor: i32, log: &[u8], view: View, y: u64, place: Place, kind: u8) -> Place {
-    let Found::Read(entry, at) = read_entry(Table::First, log, place.at) else {
+    let table = view.table;
+    let Found::Read(entry, at) = read_entry(table, log, place.at) else {
         return next_place(log, view, place);
     };
     let next = onward(view, place, entry, at);

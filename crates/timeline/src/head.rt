@@ -14,6 +14,7 @@ use log_words::entry::write_clock;
 use log_words::fault::write_fault;
 use saying::write_count;
 use saying::write_text;
+use version::Table;
 
 // Where the first band starts; a log that breaks off has one line more.
 pub(crate) fn top(broken: bool) -> u64 {
@@ -23,13 +24,20 @@ pub(crate) fn top(broken: bool) -> u64 {
     148
 }
 
-pub(crate) fn draw_head(descriptor: i32, log: &[u8], name: &[u8], found: Survey, extent: Extent) {
+pub(crate) fn draw_head(
+    descriptor: i32,
+    table: Table,
+    log: &[u8],
+    name: &[u8],
+    found: Survey,
+    extent: Extent,
+) {
     let place = found.place;
     begin_picture(descriptor, extent.height);
     write_style(descriptor);
     rectangle(descriptor, b"strip", 0, 0, 1188, extent.height);
     draw_name(descriptor, name);
-    draw_summary(descriptor, place.time, extent);
+    draw_summary(descriptor, table, place.time, extent);
     draw_timer(descriptor, found.bounds, place.joined);
     draw_key(descriptor);
     if found.broken {
@@ -90,8 +98,13 @@ fn draw_name(descriptor: i32, name: &[u8]) {
     end_text(descriptor);
 }
 
-fn draw_summary(descriptor: i32, time: u64, extent: Extent) {
+fn draw_summary(descriptor: i32, table: Table, time: u64, extent: Extent) {
     begin_text(descriptor, b"a", MARGIN, 60);
+    write_form(
+        descriptor,
+        b"Log of version #: ",
+        &[version::number(table) as u64],
+    );
     write_count(descriptor, extent.total, b" entry in ", b" entries in ");
     write_clock(descriptor, time);
     write_drawn(descriptor, extent);

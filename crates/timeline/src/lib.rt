@@ -30,6 +30,7 @@ use saying::write_count;
 use survey::Survey;
 use survey::survey_log;
 use survey::view_of;
+use version::Known;
 use version::Table;
 
 // The most bytes that a log has.
@@ -41,15 +42,13 @@ pub fn tell_timeline(log: &[u8], name: &[u8], path: &[u8]) -> u8 {
         complain(b"log over 65,536 bytes (answer 10): nothing of it is drawn\n");
         return 1;
     }
-    match read_number(log, 0) {
-        Number::Value(number, at) => {
-            if number == version::number(Table::First) {
-                return draw_log(log, at, name, path);
-            }
-            refuse_version(log)
-        }
-        Number::Unreadable => refuse_version(log),
-    }
+    let Number::Value(number, at) = read_number(log, 0) else {
+        return refuse_version(log);
+    };
+    let Known::Of(table) = version::table_of(number) else {
+        return refuse_version(log);
+    };
+    draw_log(table, log, at, name, path)
 }
 
 // What has no version is no log, and no picture is made of it.
@@ -58,13 +57,13 @@ fn refuse_version(log: &[u8]) -> u8 {
     1
 }
 
-fn draw_log(log: &[u8], at: usize, name: &[u8], path: &[u8]) -> u8 {
-    let found = survey_log(log, at);
+fn draw_log(table: Table, log: &[u8], at: usize, name: &[u8], path: &[u8]) -> u8 {
+    let found = survey_log(table, log, at);
     let descriptor = create_file(b"timeline", path);
     if descriptor < 0 {
         return 2;
     }
-    let drawn = draw_picture(descriptor, log, at, name, found);
+    let drawn = draw_picture(descriptor, table, log, at, name, found);
     // What can't be written any more shows at the last write.
     let whole = io::write_all(descriptor, b"</svg>\n");
     if !close_file(b"timeline", path, descriptor, whole) {
@@ -79,12 +78,19 @@ fn draw_log(log: &[u8], at: usize, name: &[u8], path: &[u8]) -> u8 {
 }
 
 // All of the picture but its end.
-fn draw_picture(descriptor: i32, log: &[u8], at: usize, name: &[u8], found: Survey) -> Extent {
+fn draw_picture(
+    descriptor: i32,
+    table: Table,
+    log: &[u8],
+    at: usize,
+    name: &[u8],
+    found: Survey,
+) -> Extent {
     let place = found.place;
-    let view = view_of(found);
+    let view = view_of(table, found);
     let y = top(found.broken);
     let reach = measure(log, view, y, first_place(at), place.number, found.broken);
-    draw_head(descriptor, log, file_name(name), found, reach);
+    draw_head(descriptor, table, log, file_name(name), found, reach);
     draw_bands(descriptor, log, view, y, first_place(at), reach);
     reach
 }

@@ -12,6 +12,7 @@ use fields::octet_at;
 use log::Claim;
 use log::Entry;
 use log::Run;
+use log_words::entry::is_return;
 use log_words::entry::write_actions;
 use log_words::entry::write_answer_name;
 use log_words::entry::write_clock;
@@ -99,6 +100,9 @@ pub(crate) fn draw_row(
     if joins(before, after) {
         write_joining(descriptor, view, after.start);
     }
+    if is_return(before.state, before.asked, after.state) {
+        write_return(descriptor, after.state);
+    }
     end_text(descriptor);
     if 32 < claim.actions {
         begin_text(descriptor, b"a", ASKED, sum(base, LINE));
@@ -127,6 +131,12 @@ fn write_joining(descriptor: i32, view: View, start: u64) {
         write_text(descriptor, b" to ");
         write_clock(descriptor, sum(start, view.greatest));
     }
+}
+
+fn write_return(descriptor: i32, state: u8) {
+    write_text(descriptor, b"; back to ");
+    write_state_name(descriptor, state);
+    write_text(descriptor, b", where the termination was asked from");
 }
 
 fn draw_happened(descriptor: i32, log: &[u8], base: u64, time: u64, entry: Entry) {

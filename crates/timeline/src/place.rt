@@ -2,6 +2,7 @@
 use log::Entry;
 use log::Found;
 use log::read_entry;
+use log_words::entry::asked_from;
 use timer::Timers;
 use version::Table;
 
@@ -24,8 +25,10 @@ const START: u64 = 5000;
 
 pub(crate) const STRIP: u64 = 56;
 
-// How the picture is drawn: units a second, milliseconds from one mark of the time axis to the next, and the joining timer's bounds.
+// How the log is read, by the table of its version, and the picture drawn: units a second, milliseconds from one mark of the time axis to the next, and the
+// joining timer's bounds.
 pub(crate) struct View {
+    pub table: Table,
     pub scale: u64,
     pub step: u64,
     pub least: u64,
@@ -38,6 +41,8 @@ pub(crate) struct Place {
     pub number: usize,
     pub time: u64,
     pub state: u8,
+    // The state that a termination was asked from, 0 where none is.
+    pub asked: u8,
     // Whether a join was taken, the time of the last one, and whether its timer runs.
     pub joined: bool,
     pub start: u64,
@@ -98,6 +103,7 @@ pub(crate) fn first_place(at: usize) -> Place {
         number: 0,
         time: 0,
         state: 0,
+        asked: 0,
         joined: false,
         start: 0,
         running: false,
@@ -114,6 +120,7 @@ pub(crate) fn in_new_band(place: Place) -> Place {
         number: place.number,
         time: place.time,
         state: place.state,
+        asked: place.asked,
         joined: place.joined,
         start: place.start,
         running: place.running,
@@ -186,6 +193,7 @@ pub(crate) fn onward(view: View, place: Place, entry: Entry, at: usize) -> Place
         number: std::num::wrapping_add_usize(place.number, 1),
         time,
         state: claim.state,
+        asked: asked_from(place.state, place.asked, claim.state),
         joined: joins | place.joined,
         start: start_of(joins, time, place.start),
         running: joins | (place.running & (claim.state == 5)),
@@ -197,12 +205,14 @@ pub(crate) fn onward(view: View, place: Place, entry: Entry, at: usize) -> Place
 
 // The place behind the next entry. Where there is none to be read, the walk stays, and counts on so that it ends.
 pub(crate) fn next_place(log: &[u8], view: View, place: Place) -> Place {
-    let Found::Read(entry, at) = read_entry(Table::First, log, place.at) else {
+    let table = view.table;
+    let Found::Read(entry, at) = read_entry(table, log, place.at) else {
         return Place {
             at: place.at,
             number: std::num::wrapping_add_usize(place.number, 1),
             time: place.time,
             state: place.state,
+            asked: place.asked,
             joined: place.joined,
             start: place.start,
             running: place.running,

@@ -42,7 +42,7 @@ pub(crate) struct Survey {
 }
 
 // An entry takes a byte at least, so no log has more entries than 65,536.
-pub(crate) fn survey_log(log: &[u8], at: usize) -> Survey {
+pub(crate) fn survey_log(table: Table, log: &[u8], at: usize) -> Survey {
     let mut found = Survey {
         place: first_place(at),
         bounds: Bounds {
@@ -61,7 +61,7 @@ pub(crate) fn survey_log(log: &[u8], at: usize) -> Survey {
         if is_over(log, found) {
             return found;
         }
-        found = survey_next(log, found);
+        found = survey_next(table, log, found);
         turns -= 1;
     }
     found
@@ -72,10 +72,10 @@ fn is_over(log: &[u8], found: Survey) -> bool {
     found.broken | (log.len() <= place.at)
 }
 
-fn survey_next(log: &[u8], found: Survey) -> Survey {
+fn survey_next(table: Table, log: &[u8], found: Survey) -> Survey {
     let place = found.place;
     let bounds = found.bounds;
-    match read_entry(Table::First, log, place.at) {
+    match read_entry(table, log, place.at) {
         Found::Unreadable(fault) => Survey {
             place,
             bounds,
@@ -87,6 +87,7 @@ fn survey_next(log: &[u8], found: Survey) -> Survey {
         Found::Read(entry, at) => {
             let delta = entry.delta as u64;
             let view = View {
+                table,
                 scale: 8,
                 step: 0,
                 least: 0,
@@ -170,10 +171,11 @@ fn fits(found: Survey, scale: u64) -> bool {
 }
 
 // A short log has one band as wide as it can be; a longer one has as many bands of 8 units a second as it takes.
-pub(crate) fn view_of(found: Survey) -> View {
+pub(crate) fn view_of(table: Table, found: Survey) -> View {
     let bounds = found.bounds;
     let scale = scale_of(found);
     View {
+        table,
         scale,
         step: step_of(scale),
         least: bounds.least,

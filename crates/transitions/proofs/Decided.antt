@@ -52,7 +52,7 @@ SetRightly x d =
     rightly (timerNumber (d .sets)) (runningAmong (x .timers)) (cond (same (d .next) U0) 0 (runningAmong (timersAfter d (x .timers)))) ≡ true
 
 abbrev pub Keeps : Fitness → Context → Decision → Type 0
-Keeps fitness x (Take d) = keepsFit fitness 0 (x .state) (x .timers) d ≡ true
+Keeps fitness x (Take d) = keepsFit fitness 0 (x .state) (x .timers) (x .remembered) d ≡ true
 Keeps fitness x NoStep = Unit {0}
 Keeps fitness x Ignore = Unit {0}
 Keeps fitness x (Report cause) = Unit {0}

@@ -19,6 +19,7 @@ use Rattle.transitions.specs.Table.{
   set-unless-running,
   store-value-and-reference,
   store-its-reference,
+  mind,
   adding,
   addingAll,
 }
@@ -33,6 +34,7 @@ module _ (t : Timers) where
   Shows d (set-unless-running k) = d .sets ≡ cond (isOn k t) NoTimer k
   Shows d store-value-and-reference = d .stores ≡ ValueAndReference
   Shows d store-its-reference = d .stores ≡ ItsReference
+  Shows d (mind m) = d .memory ≡ m
 
   abbrev pub ShowsAll : Taken → List Effect → Type 0
   ShowsAll d [] = Unit {0}
@@ -45,6 +47,7 @@ module _ (t : Timers) where
   here (set-unless-running k) d = refl
   here store-value-and-reference d = refl
   here store-its-reference d = refl
+  here (mind m) d = refl
 
   -- One of another kind leaves it there.
   beside : (f e : Effect) (d : Taken) → eqb (kindOf f) (kindOf e) ≡ false → Shows d e → Shows (adding t f d) e
@@ -54,36 +57,49 @@ module _ (t : Timers) where
   beside (send l) (set-unless-running k) d n c = c
   beside (send l) store-value-and-reference d n c = c
   beside (send l) store-its-reference d n c = c
+  beside (send l) (mind m) d n c = c
   beside (stop j) (send m) d n c = c
   beside (stop j) (stop k) d n c = never (sym n)
   beside (stop j) (set k) d n c = c
   beside (stop j) (set-unless-running k) d n c = c
   beside (stop j) store-value-and-reference d n c = c
   beside (stop j) store-its-reference d n c = c
+  beside (stop j) (mind m) d n c = c
   beside (set j) (send m) d n c = c
   beside (set j) (stop k) d n c = c
   beside (set j) (set k) d n c = never (sym n)
   beside (set j) (set-unless-running k) d n c = never (sym n)
   beside (set j) store-value-and-reference d n c = c
   beside (set j) store-its-reference d n c = c
+  beside (set j) (mind m) d n c = c
   beside (set-unless-running j) (send m) d n c = c
   beside (set-unless-running j) (stop k) d n c = c
   beside (set-unless-running j) (set k) d n c = never (sym n)
   beside (set-unless-running j) (set-unless-running k) d n c = never (sym n)
   beside (set-unless-running j) store-value-and-reference d n c = c
   beside (set-unless-running j) store-its-reference d n c = c
+  beside (set-unless-running j) (mind m) d n c = c
   beside store-value-and-reference (send m) d n c = c
   beside store-value-and-reference (stop k) d n c = c
   beside store-value-and-reference (set k) d n c = c
   beside store-value-and-reference (set-unless-running k) d n c = c
   beside store-value-and-reference store-value-and-reference d n c = never (sym n)
   beside store-value-and-reference store-its-reference d n c = never (sym n)
+  beside store-value-and-reference (mind m) d n c = c
   beside store-its-reference (send m) d n c = c
   beside store-its-reference (stop k) d n c = c
   beside store-its-reference (set k) d n c = c
   beside store-its-reference (set-unless-running k) d n c = c
   beside store-its-reference store-value-and-reference d n c = never (sym n)
   beside store-its-reference store-its-reference d n c = never (sym n)
+  beside store-its-reference (mind m) d n c = c
+  beside (mind l) (send m) d n c = c
+  beside (mind l) (stop k) d n c = c
+  beside (mind l) (set k) d n c = c
+  beside (mind l) (set-unless-running k) d n c = c
+  beside (mind l) store-value-and-reference d n c = c
+  beside (mind l) store-its-reference d n c = c
+  beside (mind l) (mind m) d n c = never (sym n)
 
   first-false : (a b : Bool) → (a || b) ≡ false → a ≡ false
   first-false true b e = e

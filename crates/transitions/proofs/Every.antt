@@ -12,9 +12,10 @@ use Rattle.codes.specs.declared.state.State.the-variants.{U0}
 use Rattle.timer.specs.declared.Timers.{Timers}
 use Rattle.timer.specs.Timers.{isOn}
 use Rattle.context.specs.declared.Context.{Context}
+use Rattle.context.specs.declared.Remembered.{Remembered}
 use Rattle.context.specs.States.{same}
 use Rattle.context.proofs.States.{same-state}
-use Rattle.context.proofs.Whole.{and-left, and-right, if-so, ofTimers, at-timers}
+use Rattle.context.proofs.Whole.{and-left, and-right, if-so, ofTimers, at-timers, ofRemembered, at-remembered}
 use Rattle.transitions.specs.declared.Taken.{Taken}
 use Rattle.transitions.specs.declared.Decision.{Decision}
 use Rattle.transitions.specs.declared.Decision.the-variants.{Take, NoStep, Ignore, Report, TellStatus, SetParameters}
@@ -49,9 +50,9 @@ abbrev pub numberIn : Occasion → ℕ
 numberIn (event n) = n
 numberIn (message code) = 18
 
--- A test of a row where it holds: its event number, the state, the timers that run there, and what is taken.
+-- A test of a row where it holds: its event number, the state, the timers that run there, what is remembered, and what is taken.
 abbrev pub Test : Type 0
-Test = ℕ → State → Timers → Taken → Bool
+Test = ℕ → State → Timers → Remembered → Taken → Bool
 
 -- What is asked may be so where these timers run.
 abbrev pub possible : Asked → Timers → Bool
@@ -59,11 +60,16 @@ possible nothing t = true
 possible ORIG t = true
 possible (running k) t = isOn k t
 
--- The test at each of a row's places, whichever timers run.
+-- The test at a place, whichever timers run and whatever is remembered.
+abbrev atPlace : Test → Place → ℕ → Next → Actions → List Effect → Bool
+atPlace test p n next actions effects =
+    ofTimers (λ t. ofRemembered (λ r. not (possible (p .1) t) || test n (p .0) t r (taken (p .0) t r next actions effects)))
+
+-- The test at each of a row's places.
 abbrev atPlaces : Test → List Place → ℕ → Next → Actions → List Effect → Bool
 atPlaces test [] n next actions effects = true
 atPlaces test (p ∷ ps) n next actions effects =
-    ofTimers (λ t. not (possible (p .1) t) || test n (p .0) t (taken (p .0) t next actions effects)) && atPlaces test ps n next actions effects
+    atPlace test p n next actions effects && atPlaces test ps n next actions effects
 
 -- Every row passes the test.
 abbrev pub passes : Test → List Row → Bool
@@ -90,24 +96,26 @@ met-possible ORIG x m = refl
 met-possible (running k) x m = m
 
 -- The section is over the test, what it is to show of a decision, and what holds of the decisions that are no row.
-module _ (test : Test) (P : ℕ → Decision → Type 0) (x : Context) (takes : (n : ℕ) (d : Taken) → test n (x .state) (x .timers) d ≡ true → P n (Take d))
+module _ (test : Test) (P : ℕ → Decision → Type 0) (x : Context) (takes : (n : ℕ) (d : Taken) → test n (x .state) (x .timers) (x .remembered) d ≡ true → P n (Take d))
     (none : (n : ℕ) → P n NoStep) (reports : (cause : ℕ) → P 18 (Report cause)) where
   -- The test of a place, in the context's state and where its timers run.
   tested : (n : ℕ) (p : Place) (next : Next) (actions : Actions) (effects : List Effect)
-      → ofTimers (λ t. not (possible (p .1) t) || test n (p .0) t (taken (p .0) t next actions effects)) ≡ true → same (x .state) (p .0) ≡ true
-      → met (p .1) x ≡ true → test n (x .state) (x .timers) (taken (x .state) (x .timers) next actions effects) ≡ true
+      → atPlace test p n next actions effects ≡ true → same (x .state) (p .0) ≡ true
+      → met (p .1) x ≡ true → test n (x .state) (x .timers) (x .remembered) (taken (x .state) (x .timers) (x .remembered) next actions effects) ≡ true
   tested n p next actions effects e s m =
-      subst (λ s. test n s (x .timers) (taken s (x .timers) next actions effects) ≡ true) (sym (same-state (x .state) (p .0) s))
+      subst (λ s. test n s (x .timers) (x .remembered) (taken s (x .timers) (x .remembered) next actions effects) ≡ true) (sym (same-state (x .state) (p .0) s))
       (if-so (possible (p .1) (x .timers)) _
-      (at-timers (λ t. not (possible (p .1) t) || test n (p .0) t (taken (p .0) t next actions effects)) e (x .timers)) (met-possible (p .1) x m))
+      (at-remembered (λ r. not (possible (p .1) (x .timers)) || test n (p .0) (x .timers) r (taken (p .0) (x .timers) r next actions effects))
+      (at-timers (λ t. ofRemembered (λ r. not (possible (p .1) t) || test n (p .0) t r (taken (p .0) t r next actions effects))) e (x .timers)) (x .remembered))
+      (met-possible (p .1) x m))
 
   placed : (n : ℕ) (places : List Place) (next : Next) (actions : Actions) (effects : List Effect) (unmet : Decision) (Q : List (ℕ × Decision) → Type 0)
       (here : Decision → List (ℕ × Decision)) (more : List (ℕ × Decision)) → atPlaces test places n next actions effects ≡ true → P n unmet
       → ((d : Decision) → P n d → Q (here d)) → Q more
-      → Q (inPlace (x .state) x places (Take (taken (x .state) (x .timers) next actions effects)) unmet here more)
+      → Q (inPlace (x .state) x places (Take (taken (x .state) (x .timers) (x .remembered) next actions effects)) unmet here more)
   placed n [] next actions effects unmet Q here more e u yes-way no-way = no-way
   placed n (p ∷ ps) next actions effects unmet Q here more e u yes-way no-way =
-      let first = ofTimers (λ t. not (possible (p .1) t) || test n (p .0) t (taken (p .0) t next actions effects)) in
+      let first = atPlace test p n next actions effects in
       at-cond Q (same (x .state) (p .0)) _ _
       (λ s. yes-way _
       (at-cond (P n) (met (p .1) x) _ _ (λ m. takes n _ (tested n p next actions effects (and-left first _ e) s m)) (λ m. u)))

@@ -8,10 +8,13 @@ use lib.Dec.{eqb, leb}
 use Rattle.codes.specs.declared.state.State.the-variants.{U0}
 use Rattle.timer.specs.Timers.{isOn, timerNumber, runningAmong, withTimer}
 use Rattle.context.specs.States.{same}
-use Rattle.fitness.specs.Fitness.{Fitness, timersFitBy}
-use Rattle.fitness.specs.First.{firstFitness}
+use Rattle.fitness.specs.Fitness.{Fitness, timersFitBy, rememberedFitBy}
+use Rattle.version.specs.declared.Table.{Table}
+use Rattle.version.specs.declared.Table.the-variants.{First, Second}
+use Rattle.context.specs.Remembered.{remembering, returning}
+use Rattle.fitness.specs.Tables.{fitnessOf}
 use Rattle.fitness.proofs.Sound.{Sound as SoundFitness}
-use Rattle.fitness.proofs.First.{first-sound}
+use Rattle.fitness.proofs.Tables.{fitness-sound as of-fitness}
 use Rattle.transitions.specs.declared.Send.{Send}
 use Rattle.transitions.specs.declared.Send.the-variants.{Nothing, ImmediateSetup, Setup, TerminationRequest, Status, ErrorStatus}
 use Rattle.transitions.specs.Table.{
@@ -22,15 +25,17 @@ use Rattle.transitions.specs.Table.{
   set-unless-running,
   store-value-and-reference,
   store-its-reference,
+  mind,
   Row,
   row,
   stepTable,
   timersAfter,
+  rememberedAfter,
 }
 use Rattle.transitions.proofs.Every.{Test, passes}
 use Rattle.transitions.proofs.Types.{ofTypes}
 
--- The kinds of effects: what is sent, stopped, set and stored.
+-- The kinds of effects: what is sent, stopped, set, stored and remembered.
 abbrev pub kindOf : Effect → ℕ
 kindOf (send m) = 0
 kindOf (stop k) = 1
@@ -38,6 +43,7 @@ kindOf (set k) = 2
 kindOf (set-unless-running k) = 2
 kindOf store-value-and-reference = 3
 kindOf store-its-reference = 3
+kindOf (mind m) = 4
 
 abbrev pub hasKind : ℕ → List Effect → Bool
 hasKind kind [] = false
@@ -52,25 +58,28 @@ abbrev pub singles : List Row → Bool
 singles [] = true
 singles (row places occasion next actions effects ∷ more) = single effects && singles more
 
--- Timers that fit the state fit the next one afterwards; unless that is U0, which clears.
+-- Timers, and what is remembered, that fit the state fit the next one afterwards; unless that is U0, which clears.
 abbrev pub keepsFit : Fitness → Test
-keepsFit fitness n s t d = same (d .next) U0 || (not (timersFitBy fitness s t) || timersFitBy fitness (d .next) (timersAfter d t))
+keepsFit fitness n s t r d =
+    same (d .next) U0
+    || (not (timersFitBy fitness s t && rememberedFitBy fitness s r)
+    || (timersFitBy fitness (d .next) (timersAfter d t) && rememberedFitBy fitness (d .next) (rememberedAfter (d .memory) s r)))
 
 -- No timer is set that runs.
 abbrev pub setsFresh : Fitness → Test
-setsFresh fitness n s t d = not (timersFitBy fitness s t) || not (isOn (d .sets) t)
+setsFresh fitness n s t r d = not (timersFitBy fitness s t) || not (isOn (d .sets) t)
 
 -- By numbers of timers, of what is set, what ran before and what runs after: what is set did not run, and runs; where none is set, what runs is what ran.
 abbrev pub rightly : ℕ → ℕ → ℕ → Bool
 rightly started before after = cond (eqb started 0) (eqb after 0 || eqb after before) (eqb after started && not (eqb before started))
 
 abbrev pub setsRightly : Fitness → Test
-setsRightly fitness n s t d =
+setsRightly fitness n s t r d =
     not (timersFitBy fitness s t) || rightly (timerNumber (d .sets)) (runningAmong t) (cond (same (d .next) U0) 0 (runningAmong (timersAfter d t)))
 
 -- The actions are at most a number.
 abbrev pub atMost : ℕ → Test
-atMost most n s t d = leb (d .actions) most
+atMost most n s t r d = leb (d .actions) most
 
 -- A STATUS is no row's: GET STATUS and what is reported have one.
 abbrev pub isPlain : Send → Bool
@@ -82,7 +91,7 @@ isPlain (Status cause) = false
 isPlain (ErrorStatus cause) = false
 
 abbrev pub sendsPlain : Test
-sendsPlain n s t d = isPlain (d .sends)
+sendsPlain n s t r d = isPlain (d .sends)
 
 -- The rows of a table are sound by what it says of fitness, with actions of at most a number.
 pub record Sound (fitness : Fitness) (most : ℕ) (table : List Row) : Type 0 where
@@ -95,11 +104,21 @@ pub record Sound (fitness : Fitness) (most : ℕ) (table : List Row) : Type 0 wh
   pub actions-few : passes (atMost most) table ≡ true
   pub sent-plain : passes sendsPlain table ≡ true
 
--- Document 01's rows are sound, and their actions are at most 63: that is all six of them, and the most that a log takes.
-pub document-01 : Sound firstFitness 63 stepTable
-unfolding stepTable firstFitness timersFitBy runningAmong withTimer
-document-01 = record {
-  fitness-sound = first-sound;
+-- The rows of each table are sound, and their actions are at most 63: that is all six of them, and the most that a log takes.
+pub rows-sound : (table : Table) → Sound (fitnessOf table) 63 (stepTable table)
+unfolding stepTable fitnessOf timersFitBy rememberedFitBy runningAmong withTimer remembering returning
+rows-sound First = record {
+  fitness-sound = of-fitness First;
+  effects-single = refl;
+  types-known = refl;
+  fit-kept = refl;
+  set-fresh = refl;
+  set-rightly = refl;
+  actions-few = refl;
+  sent-plain = refl;
+}
+rows-sound Second = record {
+  fitness-sound = of-fitness Second;
   effects-single = refl;
   types-known = refl;
   fit-kept = refl;

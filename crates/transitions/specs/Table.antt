@@ -18,7 +18,12 @@ use Rattle.codes.specs.MessageTypes.{
   SET-PARAMETER,
 }
 use Rattle.timer.specs.declared.Timers.{Timers}
+use Rattle.version.specs.declared.Table.{Table}
+use Rattle.version.specs.declared.Table.the-variants.{First, Second}
 use Rattle.context.specs.declared.Context.{Context}
+use Rattle.context.specs.declared.Remembered.{Remembered}
+use Rattle.context.specs.declared.Remembered.the-variants as Remembered
+use Rattle.context.specs.Remembered.{remembering, returning}
 use Rattle.context.specs.States.{same}
 use Rattle.timer.specs.declared.Timer.{Timer}
 use Rattle.timer.specs.declared.Timer.the-variants.{NoTimer, MmEst, Term, ConnReq, NoChannel}
@@ -27,6 +32,8 @@ use Rattle.transitions.specs.declared.Send.{Send}
 use Rattle.transitions.specs.declared.Send.the-variants.{Nothing, ImmediateSetup, Setup, TerminationRequest}
 use Rattle.transitions.specs.declared.Stores.{Stores}
 use Rattle.transitions.specs.declared.Stores.the-variants as Stores
+use Rattle.transitions.specs.declared.Memory.{Memory}
+use Rattle.transitions.specs.declared.Memory.the-variants.{Keep, Remember, Forget}
 use Rattle.transitions.specs.declared.Taken.{Taken}
 use Rattle.transitions.specs.declared.Decision.{Decision}
 use Rattle.transitions.specs.declared.Decision.the-variants.{Take, NoStep, Ignore, Report, TellStatus, SetParameters}
@@ -48,9 +55,10 @@ pub data Asked : Type 0 where
 abbrev pub Place : Type 0
 Place = State × Asked
 
--- Its next state. There is one case; a table that returns to a state which it remembered will have a second.
+-- Its next state: a fixed one, or back to the one that is remembered.
 pub data Next : Type 0 where
   to : State → Next
+  back : Next
 
 -- Its actions: a sum, or CONNECT's, "32 if in U1 with T_MM-est, else 0".
 pub data Actions : Type 0 where
@@ -65,6 +73,7 @@ pub data Effect : Type 0 where
   set-unless-running : Timer → Effect
   store-value-and-reference : Effect
   store-its-reference : Effect
+  mind : Memory → Effect
 
 pub data Row : Type 0 where
   row : (places : List Place) (occasion : Occasion) (next : Next) (actions : Actions) (effects : List Effect) → Row
@@ -86,12 +95,28 @@ U0p-U1-with-T-MM-est = (U0p, nothing) ∷ (U1, running MmEst) ∷ []
 abbrev pub U1-U2-ORIG : List Place
 U1-U2-ORIG = (U1, ORIG) ∷ (U2, ORIG) ∷ []
 
--- ---- document 01's rows
+-- ---- what differs between the tables
+
+-- In the first a terminate request remembers nothing, and TERMINATION REJECT leaves the radio in U5. From the second on the request remembers the state that it is
+-- asked from, and TERMINATION REJECT leads back there; outside U5 nothing is remembered.
+abbrev pub asking : Table → Memory
+asking First = Keep
+asking Second = Remember
+
+abbrev pub rejected : Table → Next
+rejected First = to U5
+rejected Second = back
+
+abbrev pub rejecting : Table → Memory
+rejecting First = Keep
+rejecting Second = Forget
+
+-- ---- document 01's rows, with what differs marked by the table
 
 -- Actions: 1 inform higher layers, 2 request an MM connection, 4 request group receive mode, 8 abort, 16 release,
 -- 32 tell lower layers that the MM connection exists implicitly. "Events 1, 2 and 10 carry a transaction value and a reference, stored when taken."
-unfoldable pub stepTable : List Row
-stepTable =
+unfoldable pub stepTable : Table → List Row
+stepTable table =
     row (each (U0 ∷ [])) (event 1) (to U0p) (act 2) (set MmEst ∷ store-value-and-reference ∷ []) ∷
     row (each (U0 ∷ [])) (event 2) (to U1) (act 0) (send ImmediateSetup ∷ set MmEst ∷ store-value-and-reference ∷ []) ∷
     row (each (U0p ∷ [])) (event 6) (to U1) (act 0) (send Setup ∷ stop MmEst ∷ []) ∷
@@ -106,8 +131,8 @@ stepTable =
     row (each (U6 ∷ [])) (event 12) (to U6) (act 1) (set-unless-running NoChannel ∷ []) ∷
     row (each (U6 ∷ [])) (event 13) (to U6) (act 1) (stop NoChannel ∷ []) ∷
     row ((U6, running NoChannel) ∷ []) (event 17) (to U0) (act (1 + 8)) [] ∷
-    row U1-U2-ORIG (event 4) (to U5) (act 0) (send TerminationRequest ∷ stop MmEst ∷ set Term ∷ []) ∷
-    row (each (U5 ∷ [])) (message TERMINATION-REJECT) (to U5) (act 1) (stop Term ∷ []) ∷
+    row U1-U2-ORIG (event 4) (to U5) (act 0) (send TerminationRequest ∷ stop MmEst ∷ set Term ∷ mind (asking table) ∷ []) ∷
+    row (each (U5 ∷ [])) (message TERMINATION-REJECT) (rejected table) (act 1) (stop Term ∷ mind (rejecting table) ∷ []) ∷
     row ((U5, running Term) ∷ []) (event 15) (to U0) (act (1 + 8)) [] ∷
     row allButU0 (message TERMINATION) (to U0) (act (1 + 16)) [] ∷
     row allButU0 (event 5) (to U0) (act 16) [] ∷
@@ -122,8 +147,10 @@ met nothing x = true
 met ORIG x = x .parameters .orig
 met (running timer) x = isOn timer (x .timers)
 
-abbrev pub nextState : Next → State
-nextState (to s) = s
+-- The next state, where something or nothing is remembered.
+abbrev pub nextState : State → Remembered → Next → State
+nextState here r (to s) = s
+nextState here r back = returning r here
 
 abbrev pub actionsIn : State → Timers → Actions → ℕ
 actionsIn s t (act n) = n
@@ -131,28 +158,43 @@ actionsIn s t implicit = cond (same s U1 && isOn MmEst t) 32 0
 
 -- What an effect adds, where these timers run; no row has two of a kind.
 abbrev pub adding : Timers → Effect → Taken → Taken
-adding t (send m) d = record { next = d .next; actions = d .actions; sends = m; stops = d .stops; sets = d .sets; stores = d .stores }
-adding t (stop k) d = record { next = d .next; actions = d .actions; sends = d .sends; stops = k; sets = d .sets; stores = d .stores }
-adding t (set k) d = record { next = d .next; actions = d .actions; sends = d .sends; stops = d .stops; sets = k; stores = d .stores }
+adding t (send m) d = record { next = d .next; actions = d .actions; sends = m; stops = d .stops; sets = d .sets; stores = d .stores; memory = d .memory }
+adding t (stop k) d = record { next = d .next; actions = d .actions; sends = d .sends; stops = k; sets = d .sets; stores = d .stores; memory = d .memory }
+adding t (set k) d = record { next = d .next; actions = d .actions; sends = d .sends; stops = d .stops; sets = k; stores = d .stores; memory = d .memory }
 adding t (set-unless-running k) d =
-    record { next = d .next; actions = d .actions; sends = d .sends; stops = d .stops; sets = cond (isOn k t) NoTimer k; stores = d .stores }
+    record { next = d .next; actions = d .actions; sends = d .sends; stops = d .stops; sets = cond (isOn k t) NoTimer k; stores = d .stores; memory = d .memory }
 adding t store-value-and-reference d =
-    record { next = d .next; actions = d .actions; sends = d .sends; stops = d .stops; sets = d .sets; stores = Stores.ValueAndReference }
-adding t store-its-reference d = record { next = d .next; actions = d .actions; sends = d .sends; stops = d .stops; sets = d .sets; stores = Stores.ItsReference }
+    record { next = d .next; actions = d .actions; sends = d .sends; stops = d .stops; sets = d .sets; stores = Stores.ValueAndReference; memory = d .memory }
+adding t store-its-reference d = record { next = d .next; actions = d .actions; sends = d .sends; stops = d .stops; sets = d .sets; stores = Stores.ItsReference; memory = d .memory }
+adding t (mind m) d = record { next = d .next; actions = d .actions; sends = d .sends; stops = d .stops; sets = d .sets; stores = d .stores; memory = m }
 
 abbrev pub addingAll : Timers → List Effect → Taken → Taken
 addingAll t [] d = d
 addingAll t (e ∷ more) d = adding t e (addingAll t more d)
 
--- What is taken by a row, in a state where these timers run.
-abbrev pub taken : State → Timers → Next → Actions → List Effect → Taken
-taken s t next actions effects =
+-- What is taken by a row, in a state where these timers run and this is remembered.
+abbrev pub taken : State → Timers → Remembered → Next → Actions → List Effect → Taken
+taken s t r next actions effects =
     addingAll t effects
-    (record { next = nextState next; actions = actionsIn s t actions; sends = Nothing; stops = NoTimer; sets = NoTimer; stores = Stores.Nothing })
+    (record {
+      next = nextState s r next;
+      actions = actionsIn s t actions;
+      sends = Nothing;
+      stops = NoTimer;
+      sets = NoTimer;
+      stores = Stores.Nothing;
+      memory = Keep;
+    })
 
 -- The timers afterwards: one is stopped, one is set.
 abbrev pub timersAfter : Taken → Timers → Timers
 timersAfter d t = withTimer (d .sets) true (withTimer (d .stops) false t)
+
+-- What is remembered afterwards, where this state is left.
+abbrev pub rememberedAfter : Memory → State → Remembered → Remembered
+rememberedAfter Keep here r = r
+rememberedAfter Remember here r = remembering here
+rememberedAfter Forget here r = Remembered.Nothing
 
 -- A row in the state `s`: what it takes if what it asks is so, and else `unmet`; `more` where it has no such state.
 abbrev pub inPlace : {A : Type 0} → State → Context → List Place → (takes unmet : Decision) → (Decision → A) → A → A
@@ -165,7 +207,7 @@ inPlace s x (p ∷ ps) takes unmet here more = cond (same s (p .0)) (here (cond 
 abbrev pub eventsIn : State → Context → List Row → List (ℕ × Decision)
 eventsIn s x [] = []
 eventsIn s x (row places (event n) next actions effects ∷ more) =
-    inPlace s x places (Take (taken s (x .timers) next actions effects)) NoStep (λ d. (n, d) ∷ eventsIn s x more) (eventsIn s x more)
+    inPlace s x places (Take (taken s (x .timers) (x .remembered) next actions effects)) NoStep (λ d. (n, d) ∷ eventsIn s x more) (eventsIn s x more)
 eventsIn s x (row places (message code) next actions effects ∷ more) = eventsIn s x more
 
 -- The rows of a state, by message type: a message whose row asks for what is not so is not compatible with the state, as one without a row.
@@ -173,7 +215,7 @@ abbrev pub messagesIn : State → Context → List Row → List (ℕ × Decision
 messagesIn s x [] = []
 messagesIn s x (row places (event n) next actions effects ∷ more) = messagesIn s x more
 messagesIn s x (row places (message code) next actions effects ∷ more) =
-    inPlace s x places (Take (taken s (x .timers) next actions effects)) (Report 98) (λ d. (code, d) ∷ messagesIn s x more) (messagesIn s x more)
+    inPlace s x places (Take (taken s (x .timers) (x .remembered) next actions effects)) (Report 98) (λ d. (code, d) ∷ messagesIn s x more) (messagesIn s x more)
 
 -- The two messages that have a sentence of their own, in any state but U0.
 abbrev pub sentences : List (ℕ × Decision)
@@ -211,9 +253,9 @@ decidedIn table s x number code = cond (eqb number 18) (heardIn table s x code) 
 unfoldable pub decidedBy : List Row → Context → ℕ → ℕ → Decision
 decidedBy table x number code = decidedIn table (x .state) x number code
 
--- Document 01's table.
-abbrev pub decidedOf : Context → ℕ → ℕ → Decision
-decidedOf = decidedBy stepTable
+-- By a step table's rows.
+abbrev pub decidedOf : Table → Context → ℕ → ℕ → Decision
+decidedOf table = decidedBy (stepTable table)
 
 -- The number of the timer that is set by what is decided, 0 for none.
 abbrev pub setBy : Decision → ℕ

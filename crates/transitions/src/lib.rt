@@ -21,7 +21,14 @@ pub enum Stores {
     ItsReference,
 }
 
-// A row that is taken: next state, actions, what is sent, the timer that is stopped, the timer that is set, what is stored.
+// What becomes of what is remembered: it stays, the state that is left is remembered, or it is forgotten.
+pub enum Memory {
+    Keep,
+    Remember,
+    Forget,
+}
+
+// A row that is taken: next state, actions, what is sent, the timer that is stopped, the timer that is set, what is stored, and what is remembered.
 // "Set unless running" sets none where the timer runs. The next state is a state: where a row returns to one that was remembered, whoever decides knows which.
 pub struct Taken {
     pub next: State,
@@ -30,6 +37,7 @@ pub struct Taken {
     pub stops: Timer,
     pub sets: Timer,
     pub stores: Stores,
+    pub memory: Memory,
 }
 
 pub enum Decision {

@@ -7,14 +7,15 @@ use lib.Dec.{eqb}
 use borrow.Author.Tests.{eqb-true}
 use Rattle.octets.proofs.Choice.{never}
 use Rattle.message.specs.declared.Reference.{Reference}
+use Rattle.version.specs.declared.Table.{Table}
 use Rattle.context.specs.declared.Context.{Context}
 use Rattle.transitions.specs.declared.Send.{Send}
 use Rattle.transitions.specs.declared.Send.the-variants.{Nothing, ImmediateSetup, Setup, TerminationRequest, Status, ErrorStatus}
 use Rattle.transitions.specs.declared.Decision.{Decision}
 use Rattle.transitions.specs.declared.Decision.the-variants.{Take, NoStep, Ignore, Report, TellStatus, SetParameters}
-use Rattle.fitness.specs.First.{firstFitness}
+use Rattle.fitness.specs.Tables.{fitnessOf}
 use Rattle.transitions.specs.Table.{stepTable}
-use Rattle.transitions.proofs.Sound.{isPlain, document-01}
+use Rattle.transitions.proofs.Sound.{isPlain, rows-sound}
 use Rattle.transitions.proofs.Decided.{Plain, event-plain as by-rows}
 use Rattle.call.specs.declared.Seen.{Seen}
 use Rattle.call.specs.declared.Settled.{Settled}
@@ -46,19 +47,19 @@ plain-reply own identity s u x (ErrorStatus cause) e = never e
 abbrev PlainTaken : Settled → Type 0
 PlainTaken t = isPlain (t .sends) ≡ true
 
-carried-plain : (x : Context) (d : Decision) (e : Seen) → Plain d → PlainTaken (carriedOut firstFitness x d e)
+carried-plain : (table : Table) (x : Context) (d : Decision) (e : Seen) → Plain d → PlainTaken (carriedOut (fitnessOf table) x d e)
 unfolding carriedOut noStep
-carried-plain x (Take d) e p = p
-carried-plain x NoStep e p = refl
-carried-plain x Ignore e p = absurd p
-carried-plain x (Report cause) e p = absurd p
-carried-plain x TellStatus e p = absurd p
-carried-plain x SetParameters e p = absurd p
+carried-plain table x (Take d) e p = p
+carried-plain table x NoStep e p = refl
+carried-plain table x Ignore e p = absurd p
+carried-plain table x (Report cause) e p = absurd p
+carried-plain table x TellStatus e p = absurd p
+carried-plain table x SetParameters e p = absurd p
 
-event-plain : (x : Context) (t : Told) → NoMessage t → PlainTaken (settled x (toldDue t))
+event-plain : (table : Table) (x : Context) (t : Told) → NoMessage t → PlainTaken (settled table x (toldDue t))
 unfolding settledBy toldDue stepBy noStep
-event-plain x (Is event) h = carried-plain x _ (seenOf event) (by-rows firstFitness 63 stepTable document-01 x (seenOf event .number) (seenOf event .code) h)
-event-plain x NoEvent h = refl
+event-plain table x (Is event) h = carried-plain table x _ (seenOf event) (by-rows (fitnessOf table) 63 (stepTable table) (rows-sound table) x (seenOf event .number) (seenOf event .code) h)
+event-plain table x NoEvent h = refl
 
 -- ---- the step
 
@@ -74,13 +75,13 @@ call-not-received n c = go (eqb n 18) refl
     go true e = let q : n ≡ 18 = eqb-true n 18 e in never (rw q at c)
     go false e = refl
 
-module _ (own : Own) (identity : List ℕ) (x : Context) (e : GivenEvent) where
+module _ (table : Table) (own : Own) (identity : List ℕ) (x : Context) (e : GivenEvent) where
   abbrev number : ℕ
   number = e .happened .number
 
   -- Without a message, the octets do not matter.
-  no-octets : (t : Told) → NoMessage t → (s u : List ℕ) → reacted own identity s (settled x (toldDue t)) ≡ reacted own identity u (settled x (toldDue t))
-  no-octets t h s u = rw (plain-reply own identity s u (settled x (toldDue t) .context) (settled x (toldDue t) .sends) (event-plain x t h))
+  no-octets : (t : Told) → NoMessage t → (s u : List ℕ) → reacted own identity s (settled table x (toldDue t)) ≡ reacted own identity u (settled table x (toldDue t))
+  no-octets t h s u = rw (plain-reply own identity s u (settled table x (toldDue t) .context) (settled table x (toldDue t) .sends) (event-plain table x t h))
 
   -- Without a call, the value and the reference do not matter.
   no-call : carriesCall number ≡ false → (v w : ℕ) (r q : Reference) → eventOf number v r ≡ eventOf number w q
@@ -90,11 +91,11 @@ module _ (own : Own) (identity : List ℕ) (x : Context) (e : GivenEvent) where
       let b = either (eqb number 2) _ (a .1) in
       rw (a .0, b .0, b .1)
 
-  pub only-carried : stepped own identity x (carriedBy e) ≡ stepped own identity x e
+  pub only-carried : stepped table own identity x (carriedBy e) ≡ stepped table own identity x e
   unfolding stepOf refusalOf argumentRefusal outOfRange reactedTo dueTo carriedBy carriesCall
   only-carried = by-call (carriesCall number) refl
     where
-      by-number : carriesCall number ≡ false → (m : Bool) → eqb number 18 ≡ m → stepped own identity x (carriedBy e) ≡ stepped own identity x e
+      by-number : carriesCall number ≡ false → (m : Bool) → eqb number 18 ≡ m → stepped table own identity x (carriedBy e) ≡ stepped table own identity x e
       by-number c true m = rw (c, m)
       by-number c false m =
           rw (
@@ -104,7 +105,7 @@ module _ (own : Own) (identity : List ℕ) (x : Context) (e : GivenEvent) where
             no-octets (eventOf number 0 (callReference noReference)) (no-message _ _ _) (e .octets) [],
           )
 
-      by-call : (c : Bool) → carriesCall number ≡ c → stepped own identity x (carriedBy e) ≡ stepped own identity x e
+      by-call : (c : Bool) → carriesCall number ≡ c → stepped table own identity x (carriedBy e) ≡ stepped table own identity x e
       by-call true c =
           rw (
             c,

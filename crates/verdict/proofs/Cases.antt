@@ -3,9 +3,10 @@ use Prim.Native.Nat.{ℕ}
 use mathlib.Core.Path.{_≡_, refl}
 use mathlib.Core.List.{List, [], _∷_, _++_}
 use Rattle.codes.specs.Attributes.{weighs}
+use Rattle.context.specs.Remembered.{remembering, returning}
 use Rattle.context.specs.Context.{startRow, entering, cleared}
-use Rattle.fitness.specs.Fitness.{consistentBy, timersFitBy, isCleared, fitBy}
-use Rattle.fitness.specs.First.{firstFitness}
+use Rattle.fitness.specs.Fitness.{consistentBy, timersFitBy, rememberedFitBy, isCleared, fitBy}
+use Rattle.fitness.specs.Tables.{fitnessOf}
 use Rattle.timer.specs.Timers.{runningAmong, expiryOf, lengthOf, withTimer}
 use Rattle.transitions.specs.Table.{stepTable, heardIn, happenedIn, decidedIn, decidedBy}
 use Rattle.call.specs.Due.{settledBy}
@@ -93,5 +94,5 @@ Answered (c ∷ cs) =
     ((answerNumber (judgeOf own identity (c .0)) ≡ c .1) × (answerValues (judgeOf own identity (c .0)) ≡ c .2)) × Answered cs
 
 pub all-cases : Answered cases
-unfolding judgeOf versionJudged tableOf settingsOut judgeOne judge judgeFrom turn narrow entries entriesIn numberAt groupsAt joined upTo smallAt runAt callAt receivedAt dataAt claimAt restAt entryAt greatestEvent greatestState greatestActions carriesCall agree parametersNumber weighs stepOf refusalOf fitnessRefusal argumentRefusal outOfRange reactedTo dueTo eventOf toldDue settledBy stepBy seenOf carriedOut decidedBy decidedIn stepTable heardIn happenedIn noStep ignored afterwards withTimer parametersAfter entering startRow valueAfter referenceAfter cleared fitBy consistentBy timersFitBy isCleared runningAmong expiryOf lengthOf replyOf dueOf sameOctets firstFitness
+unfolding judgeOf versionJudged tableOf settingsOut judgeOne judge judgeFrom turn narrow entries entriesIn numberAt groupsAt joined upTo smallAt runAt callAt receivedAt dataAt claimAt restAt entryAt greatestEvent greatestState greatestActions carriesCall agree parametersNumber weighs stepOf refusalOf fitnessRefusal argumentRefusal outOfRange reactedTo dueTo eventOf toldDue settledBy stepBy seenOf carriedOut decidedBy decidedIn stepTable heardIn happenedIn noStep ignored afterwards withTimer parametersAfter entering startRow valueAfter referenceAfter cleared fitBy consistentBy timersFitBy rememberedFitBy isCleared runningAmong remembering returning expiryOf lengthOf replyOf dueOf sameOctets fitnessOf
 all-cases = ((refl, refl), ((refl, refl), ((refl, refl), ((refl, refl), ((refl, refl), ((refl, refl), ((refl, refl), ((refl, refl), ((refl, refl), ((refl, refl), ((refl, refl), ((refl, refl), tt))))))))))))

@@ -1,7 +1,7 @@
 -- The recorder refuses no true step: what a step answered 0 to 3 gives is in range. So the recorder never answers 4 to it, where the delta is in range
 -- and no more bytes are used than the buffer has: those two are the host's.
 use Prim.Native.Nat.{ℕ, _+_, _≤_, _<_}
-use mathlib.Core.Path.{_≡_, refl, ap}
+use mathlib.Core.Path.{_≡_, refl, ap, subst}
 use mathlib.Core.Bool.{Bool, true, false, _&&_}
 use mathlib.Core.List.{List, [], _∷_, _++_}
 use native.Mathlib.Omega.{arith}
@@ -21,8 +21,8 @@ use Rattle.radio.proofs.Range.{InRange, in-range, refused-over, number-least, n
 use Rattle.radio.proofs.Reacting.{step-by}
 use Rattle.radio.proofs.Answers.{Honest, step-honest, step-short}
 use Rattle.version.specs.declared.Table.{Table}
-use Rattle.version.specs.declared.Table.the-variants.{First}
 use Rattle.version.specs.Version.{greatestEvent, greatestState, greatestActions, longest}
+use Rattle.version.proofs.Tables.{event-so, state-so, actions-so}
 use Rattle.log_data.specs.declared.Reference.{Reference}
 use Rattle.log_data.specs.Reading.{carriesCall}
 use Rattle.log.specs.Layout.{Field, number, octets, allInRange, dataFields, claimFields, fields, ranged}
@@ -63,14 +63,14 @@ data-first event value reference mode message more v m l r =
     Good : List Field → Type 0
     Good fs = allInRange (fs ++ more) ≡ true
 
-claim-ranged : (answer state parameters actions : ℕ) (reply : List ℕ) → answer ≤ 3 → state ≤ 7 → parameters ≤ 15 → actions ≤ 63 → length reply ≤ 255
-    → allInRange (claimFields First answer state parameters actions reply) ≡ true
-unfolding claimFields greatestState greatestActions
-claim-ranged answer state parameters actions reply a s p c l =
+claim-ranged : (table : Table) (answer state parameters actions : ℕ) (reply : List ℕ) → answer ≤ 3 → state ≤ 7 → parameters ≤ 15 → actions ≤ 63 → length reply ≤ 255
+    → allInRange (claimFields table answer state parameters actions reply) ≡ true
+unfolding claimFields
+claim-ranged table answer state parameters actions reply a s p c l =
     number-first 0 3 answer _ (omega arith) a
-    (number-first 0 7 state _ (omega arith) s
+    (number-first 0 (greatestState table) state _ (omega arith) (subst (λ m. state ≤ m) (state-so table) s)
     (number-first 0 15 parameters _ (omega arith) p
-    (number-first 0 63 actions _ (omega arith) c
+    (number-first 0 (greatestActions table) actions _ (omega arith) (subst (λ m. actions ≤ m) (actions-so table) c)
     (number-first 0 255 (length reply) _ (omega arith) l (octets-first reply [] none-left)))))
 
 -- ---- what a context comes to in numbers
@@ -99,18 +99,18 @@ parameters-most p =
 
 -- The entry that the recorder is told of after a step: so many milliseconds since the entry before, the event, and what the step gave.
 abbrev pub entryAfter : (table : Table) (own : Own) (identity : List ℕ) → Context → GivenEvent → ℕ → Entry (steps table own identity)
-entryAfter table own identity x e delta = record { delta = delta; event = e; claim = claimOf (stepped own identity x e) }
+entryAfter table own identity x e delta = record { delta = delta; event = e; claim = claimOf (stepped table own identity x e) }
 
 -- It is the entry that `specs/Host` has a host tell of.
 pub entry-as-told : (table : Table) (own : Own) (identity : List ℕ) (x : Context) (waited : ℕ) (m : Move (steps table own identity))
     → entryAfter table own identity x (m .event) (waited + m .wait) ≡ entryOf (steps table own identity) x waited m
 entry-as-told table own identity x waited m = refl
 
-module _ (own : Own) (identity : List ℕ) (x : Context) (e : GivenEvent) (answered : recordable own identity x e ≡ true) where
+module _ (table : Table) (own : Own) (identity : List ℕ) (x : Context) (e : GivenEvent) (answered : recordable table own identity x e ≡ true) where
   abbrev refusal : ℕ
-  refusal = refusalOf x (own .key) (length identity) (e .happened) (length (e .octets)) 255
+  refusal = refusalOf table x (own .key) (length identity) (e .happened) (length (e .octets)) 255
 
-  answer-most : stepped own identity x e .answer ≤ 3
+  answer-most : stepped table own identity x e .answer ≤ 3
   answer-most = leb-true _ 3 answered
 
   -- A refusal is answered with its number, which is over 3: so a step that is answered 0 to 3 was not refused.
@@ -120,12 +120,12 @@ module _ (own : Own) (identity : List ℕ) (x : Context) (e : GivenEvent) (answe
       go : (b : Bool) → eqb refusal 0 ≡ b → refusal ≡ 0
       go true q = eqb-true refusal 0 q
       go false q =
-          let s : stepped own identity x e .answer ≡ refusal = rw (step-by own identity 255 x (e .happened) (e .octets), q) in
-          let o : 3 < refusal = refused-over x (own .key) (length identity) (e .happened) (length (e .octets)) 255 (eqb-false refusal 0 q) in
+          let s : stepped table own identity x e .answer ≡ refusal = rw (step-by table own identity 255 x (e .happened) (e .octets), q) in
+          let o : 3 < refusal = refused-over table x (own .key) (length identity) (e .happened) (length (e .octets)) 255 (eqb-false refusal 0 q) in
           absurd (omega (arith, s, o, answer-most))
 
-  passes : InRange x (own .key) (length identity) (e .happened) (length (e .octets)) 255
-  passes = in-range x (own .key) (length identity) (e .happened) (length (e .octets)) 255 not-refused
+  passes : InRange table x (own .key) (length identity) (e .happened) (length (e .octets)) 255
+  passes = in-range table x (own .key) (length identity) (e .happened) (length (e .octets)) 255 not-refused
 
   message-most : eqb (e .happened .number) 18 ≡ true → length (e .octets) ≤ 251
   message-most c =
@@ -139,20 +139,21 @@ module _ (own : Own) (identity : List ℕ) (x : Context) (e : GivenEvent) (answe
 
   module _ (delta : ℕ) (day : delta ≤ 86400000) where
     -- Each number of the entry is in range. The context may be any: one that is not fit is answered 7.
-    pub true-step-ranged : ranged First (meantBy First own identity (entryAfter First own identity x e delta)) ≡ true
-    unfolding ranged fields greatestEvent
+    pub true-step-ranged : ranged table (meantBy table own identity (entryAfter table own identity x e delta)) ≡ true
+    unfolding ranged fields
     true-step-ranged =
-        let h : Honest x (stepped own identity x e) = step-honest own identity 255 x (e .happened) (e .octets) in
-        let l : length (stepped own identity x e .reply) ≤ 251 = step-short own identity 255 x (e .happened) (e .octets) in
+        let h : Honest x (stepped table own identity x e) = step-honest table own identity 255 x (e .happened) (e .octets) in
+        let l : length (stepped table own identity x e .reply) ≤ 251 = step-short table own identity 255 x (e .happened) (e .octets) in
         number-first 0 86400000 delta _ (omega arith) day
-        (number-first 1 18 (e .happened .number) _ (number-least (own .key) (length identity) (e .happened) (passes .range)) (number-most (own .key) (length identity) (e .happened) (passes .range))
+        (number-first 1 (greatestEvent table) (e .happened .number) _ (number-least (own .key) (length identity) (e .happened) (passes .range))
+        (subst (λ m. e .happened .number ≤ m) (event-so table) (number-most (own .key) (length identity) (e .happened) (passes .range)))
         (data-first (e .happened .number) (e .happened .value) _ (e .happened .mode) (e .octets) _ call-most
         (mode-most (own .key) (length identity) (e .happened) (passes .range)) message-most
-        (claim-ranged _ _ _ _ _ answer-most (state-most (stepped own identity x e .context .state)) (parameters-most (stepped own identity x e .context .parameters))
+        (claim-ranged table _ _ _ _ _ answer-most (state-most (stepped table own identity x e .context .state)) (parameters-most (stepped table own identity x e .context .parameters))
         (h .few) (omega (arith, l)))))
 
     -- So with no more bytes used than there are, the recorder does not answer 4: it records the entry, or answers 10 or 11.
-    pub true-step-recorded : (log : List ℕ) (used : ℕ) → used ≤ length log → recordAnswer First log used (meantBy First own identity (entryAfter First own identity x e delta)) ≡ OutOfRange → ⊥
+    pub true-step-recorded : (log : List ℕ) (used : ℕ) → used ≤ length log → recordAnswer table log used (meantBy table own identity (entryAfter table own identity x e delta)) ≡ OutOfRange → ⊥
     unfolding recordAnswer
     true-step-recorded log used inside =
         rw (le-ltb (length log) used inside, true-step-ranged)
@@ -164,13 +165,13 @@ module _ (own : Own) (identity : List ℕ) (x : Context) (e : GivenEvent) (answe
         Other r = r ≡ OutOfRange → ⊥
 
         total : ℕ
-        total = used + length (added First used (meantBy First own identity (entryAfter First own identity x e delta)))
+        total = used + length (added table used (meantBy table own identity (entryAfter table own identity x e delta)))
 
     -- And within the limits of a log it records the entry.
     pub true-step-taken : (log : List ℕ) (used : ℕ)
-        → used + length (added First used (meantBy First own identity (entryAfter First own identity x e delta))) ≤ longest
-        → used + length (added First used (meantBy First own identity (entryAfter First own identity x e delta))) ≤ length log
-        → recordAnswer First log used (meantBy First own identity (entryAfter First own identity x e delta))
-        ≡ Used (used + length (added First used (meantBy First own identity (entryAfter First own identity x e delta))))
+        → used + length (added table used (meantBy table own identity (entryAfter table own identity x e delta))) ≤ longest
+        → used + length (added table used (meantBy table own identity (entryAfter table own identity x e delta))) ≤ length log
+        → recordAnswer table log used (meantBy table own identity (entryAfter table own identity x e delta))
+        ≡ Used (used + length (added table used (meantBy table own identity (entryAfter table own identity x e delta))))
     unfolding recordAnswer
     true-step-taken log used short room = rw (le-ltb (length log) used (omega arith), true-step-ranged, le-ltb longest _ short, le-ltb (length log) _ room) refl

@@ -12,7 +12,7 @@ use Rattle.context.specs.declared.Context.{Context}
 use Rattle.reply.specs.declared.Own.{Own}
 use Rattle.step_arguments.specs.Arguments.{settingsOut}
 use Rattle.version.specs.declared.Table.{Table}
-use Rattle.version.specs.declared.Table.the-variants.{First}
+use Rattle.version.specs.declared.Table.the-variants.{First, Second}
 use Rattle.version.specs.Version.{versionOf, tableOf, longest}
 use Rattle.version.proofs.Back.{table-number}
 use Rattle.version.proofs.Tables.{number-small}
@@ -106,8 +106,8 @@ module _ (table : Table) (own : Own) (identity : List ℕ) where
   unfolding carriedBy
   carried-explained lengths [] s x = tt
   carried-explained lengths (e ∷ es) s x = (
-    record { timed = record { within = x .0 .timed .within; exact = x .0 .timed .exact }; claimed = rw (only-carried own identity (s .context) (e .event)) (x .0 .claimed) },
-    rw (only-carried own identity (s .context) (e .event)) (carried-explained lengths es (next 𝓢 s e) (x .1)),
+    record { timed = record { within = x .0 .timed .within; exact = x .0 .timed .exact }; claimed = rw (only-carried table own identity (s .context) (e .event)) (x .0 .claimed) },
+    rw (only-carried table own identity (s .context) (e .event)) (carried-explained lengths es (next 𝓢 s e) (x .1)),
   )
 
   -- ---- what the recorder leaves
@@ -127,12 +127,12 @@ module _ (table : Table) (own : Own) (identity : List ℕ) where
 
   recording-grows : (so : List Meant → List ℕ) → Growing so → (ms : List (Move 𝓢)) (x : Context) (waited used : ℕ) (before after : List ℕ) (total : ℕ) (past : List Meant) → take used before ≡ so past
       → used ≤ length before → Recording table own identity ms x waited used before after total
-      → Grows so past (recorded 𝓢 (recordable own identity) ms x waited) used before after total
+      → Grows so past (recorded 𝓢 (recordable table own identity) ms x waited) used before after total
   recording-grows so growing [] x waited used before after total past q h r =
       record { bytes = rw (r .0, r .1, append-nil) q; in-range = tt; inside = rw (r .0, r .1) h; short = λ k. rw (r .1) k }
   recording-grows so growing (m ∷ ms) x waited used before after total past q h r =
-      go (recordable own identity x (m .event)) (entryOf 𝓢 x waited m) (recorded 𝓢 (recordable own identity) ms (𝓢 .after x (m .event)) 0)
-      (recorded 𝓢 (recordable own identity) ms (𝓢 .after x (m .event)) (waited + m .wait))
+      go (recordable table own identity x (m .event)) (entryOf 𝓢 x waited m) (recorded 𝓢 (recordable table own identity) ms (𝓢 .after x (m .event)) 0)
+      (recorded 𝓢 (recordable table own identity) ms (𝓢 .after x (m .event)) (waited + m .wait))
       (λ between so-far later p g k. recording-grows so growing ms (𝓢 .after x (m .event)) 0 so-far between after total later p g k)
       (λ k. recording-grows so growing ms (𝓢 .after x (m .event)) (waited + m .wait) used before after total past q h k) r
     where
@@ -168,13 +168,13 @@ version-reads table rest =
 -- recorder is called after every step answered 0 to 3 and takes each entry. Then the bytes used are accepted: every entry, with the timer between
 -- the least and the greatest.
 module _ (table : Table) (own : Own) (identity : List ℕ) (settings : settingsOut (own .key) (length identity) ≡ false) (T : ℕ) (in-range : InRange joining T)
-    (ms : List (Move (steps table own identity))) (made : MadeInTime (steps table own identity) (recordable own identity) (lengthsWith joining T) ms (begin (steps table own identity)) 0) where
+    (ms : List (Move (steps table own identity))) (made : MadeInTime (steps table own identity) (recordable table own identity) (lengthsWith joining T) ms (begin (steps table own identity)) 0) where
   abbrev 𝓢₁ : Steps
   𝓢₁ = steps table own identity
 
   -- The entries that are recorded.
   abbrev pub recordedEntries : List (Entry 𝓢₁)
-  recordedEntries = recorded 𝓢₁ (recordable own identity) ms (𝓢₁ .cleared) 0
+  recordedEntries = recorded 𝓢₁ (recordable table own identity) ms (𝓢₁ .cleared) 0
 
   abbrev pub AcceptedWith : List ℕ → Type 0
   AcceptedWith log = (i : Interval) × (judgeOf own identity log ≡ Accepted (length recordedEntries) (i .least) (i .greatest)) × Within T i
@@ -195,7 +195,7 @@ module _ (table : Table) (own : Own) (identity : List ℕ) (settings : settingsO
         known = table-number table;
       } in
       let x = carried-explained table own identity (lengthsWith joining T) es (begin 𝓢₁)
-      (recorded-explained 𝓢₁ (recordable own identity) (still table own identity) (lengthsWith joining T) ms (begin 𝓢₁) 0 made) in
+      (recorded-explained 𝓢₁ (recordable table own identity) (still table own identity) (lengthsWith joining T) ms (begin 𝓢₁) 0 made) in
       let w = written-accepted 𝓢₁ (oneTimer joining) (steps-laws table own identity) (one-timer-laws joining (omega arith)) (writer table own identity)
       (T, tt) (in-range, tt) (carriedAll table own identity es) (carried-fine table own identity es ranges) x (versionBytes table) log bytes in
       let n : length (carriedAll table own identity es) ≡ length es = carried-count table own identity es in
@@ -230,7 +230,8 @@ module _ (table : Table) (own : Own) (identity : List ℕ) (settings : settingsO
         whole-accepted (take total after) (g .bytes) (rw u (g .short (b .short))) (g .in-range)
 
 -- A log that the recorder began, with no entry: it is accepted with 0 entries, and every joining timer is left.
-pub begun-alone : (own : Own) (identity : List ℕ) → settingsOut (own .key) (length identity) ≡ false → (before after : List ℕ) (used : ℕ)
-    → LogBegins First before after (Used used) → judgeOf own identity (take used after) ≡ Accepted 0 (joining .low) (joining .high)
+pub begun-alone : (table : Table) (own : Own) (identity : List ℕ) → settingsOut (own .key) (length identity) ≡ false → (before after : List ℕ) (used : ℕ)
+    → LogBegins table before after (Used used) → judgeOf own identity (take used after) ≡ Accepted 0 (joining .low) (joining .high)
 unfolding whole layout versionOf grouped groups judgeOf versionJudged tableOf numberAt groupsAt joined entries entriesIn judgeOne judge judgeFrom
-begun-alone own identity settings before after used begun = rw (begun-log First before after used begun .used, settings) refl
+begun-alone First own identity settings before after used begun = rw (begun-log First before after used begun .used, settings) refl
+begun-alone Second own identity settings before after used begun = rw (begun-log Second before after used begun .used, settings) refl

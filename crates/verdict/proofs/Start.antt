@@ -8,11 +8,11 @@ use lib.ListN.{length}
 use borrow.Author.Tests.{not-true, eqb-true, eqb-false, ne-eqb}
 use Rattle.octets.proofs.Choice.{never}
 use Rattle.context.specs.declared.Context.{Context}
-use Rattle.fitness.specs.First.{firstFitness, fitOf}
+use Rattle.fitness.specs.Tables.{fitnessOf, fitOf}
 use Rattle.context.specs.Running.{runs}
 use Rattle.context.proofs.Whole.{and-left, and-right}
 use Rattle.transitions.specs.Table.{stepTable}
-use Rattle.transitions.proofs.Sound.{rightly, document-01}
+use Rattle.transitions.proofs.Sound.{rightly, rows-sound}
 use Rattle.call.specs.Sets.{setByDue}
 use Rattle.call.proofs.Timed.{stays, timed-by}
 use Rattle.reply.specs.declared.Own.{Own}
@@ -28,15 +28,15 @@ use Rattle.verdict.proofs.Kept.{always-fit}
 
 -- ---- no row sets anew a timer that runs
 
-step-right : (own : Own) (identity : List ℕ) (x : Context) (e : GivenEvent) → fitOf x ≡ true
-    → rightly (setsTimer own identity x e) (runs x) (runs (stepped own identity x e .context)) ≡ true
+step-right : (table : Table) (own : Own) (identity : List ℕ) (x : Context) (e : GivenEvent) → fitOf table x ≡ true
+    → rightly (setsTimer table own identity x e) (runs x) (runs (stepped table own identity x e .context)) ≡ true
 unfolding setsTimer stepOf reactedTo
-step-right own identity x e fit = go (eqb (refusalOf x (own .key) (length identity) (e .happened) (length (e .octets)) 255) 0)
+step-right table own identity x e fit = go (eqb (refusalOf table x (own .key) (length identity) (e .happened) (length (e .octets)) 255) 0)
   where
-    go : (b : Bool) → rightly (cond b (setByDue x (dueTo identity x (e .happened) (e .octets))) 0) (runs x)
-        (runs (cond b (reacted own identity (e .octets) (reactedTo identity x (e .happened) (e .octets)))
-        (refused (refusalOf x (own .key) (length identity) (e .happened) (length (e .octets)) 255) x) .context)) ≡ true
-    go true = timed-by firstFitness x 63 stepTable document-01 fit (dueTo identity x (e .happened) (e .octets))
+    go : (b : Bool) → rightly (cond b (setByDue table x (dueTo table identity x (e .happened) (e .octets))) 0) (runs x)
+        (runs (cond b (reacted own identity (e .octets) (reactedTo table identity x (e .happened) (e .octets)))
+        (refused (refusalOf table x (own .key) (length identity) (e .happened) (length (e .octets)) 255) x) .context)) ≡ true
+    go true = timed-by (fitnessOf table) x 63 (stepTable table) (rows-sound table) fit (dueTo table identity x (e .happened) (e .octets))
     go false = stays (runs x)
 
 one-of : (a b : Bool) → (a || b) ≡ true → a ≡ false → b ≡ true
@@ -54,14 +54,14 @@ where-none set before after r z n =
     eqb-true after before (one-of (eqb after 0) _ q (ne-eqb after 0 n))
 
 -- "no row turns on a timer that runs": in every fit context, so in every context come to.
-pub none-anew : (table : Table) (own : Own) (identity : List ℕ) (x : Context) (e : GivenEvent) → fitOf x ≡ true
-    → NoneAnew (steps table own identity) (setsTimer own identity x e) x e
+pub none-anew : (table : Table) (own : Own) (identity : List ℕ) (x : Context) (e : GivenEvent) → fitOf table x ≡ true
+    → NoneAnew (steps table own identity) (setsTimer table own identity x e) x e
 none-anew table own identity x e fit =
-    let r = step-right own identity x e fit in
+    let r = step-right table own identity x e fit in
     record {
-      not-before = λ n. where-set (setsTimer own identity x e) (runs x) (runs (stepped own identity x e .context)) r n .1;
-      runs-after = λ n. where-set (setsTimer own identity x e) (runs x) (runs (stepped own identity x e .context)) r n .0;
-      ran-before = λ z n. where-none (setsTimer own identity x e) (runs x) (runs (stepped own identity x e .context)) r z n;
+      not-before = λ n. where-set (setsTimer table own identity x e) (runs x) (runs (stepped table own identity x e .context)) r n .1;
+      runs-after = λ n. where-set (setsTimer table own identity x e) (runs x) (runs (stepped table own identity x e .context)) r n .0;
+      ran-before = λ z n. where-none (setsTimer table own identity x e) (runs x) (runs (stepped table own identity x e .context)) r z n;
     }
 
 -- So the start that the judge keeps is right: after each entry of a log, a timer that runs was started by that entry exactly if its row sets one.
@@ -69,8 +69,8 @@ pub start-by-row : (table : Table) (own : Own) (identity : List ℕ) (n : ℕ) (
     → let s : Moment (steps table own identity) = momentAfter (steps table own identity) n (begin (steps table own identity)) log in
     (timerAfter (steps table own identity) s e ≡ 0 → ⊥)
     → next (steps table own identity) s e .started
-    ≡ cond (eqb (setsTimer own identity (s .context) (e .event)) 0) (s .started) (timeOf (steps table own identity) s e)
+    ≡ cond (eqb (setsTimer table own identity (s .context) (e .event)) 0) (s .started) (timeOf (steps table own identity) s e)
 start-by-row table own identity n log e on =
     let s : Moment (steps table own identity) = momentAfter (steps table own identity) n (begin (steps table own identity)) log in
-    started-by-row (steps table own identity) (setsTimer own identity (s .context) (e .event)) s e
+    started-by-row (steps table own identity) (setsTimer table own identity (s .context) (e .event)) s e
     (none-anew table own identity (s .context) (e .event) (always-fit table own identity n log)) on

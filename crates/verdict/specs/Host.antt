@@ -18,7 +18,7 @@ module _ (table : Table) (own : Own) (identity : List ℕ) where
   abbrev pub Recording : List (Move (steps table own identity)) → Context → (waited used : ℕ) (before after : List ℕ) (total : ℕ) → Type 0
   Recording [] x waited used before after total = (after ≡ before) × (total ≡ used)
   Recording (m ∷ ms) x waited used before after total =
-      cond (recordable own identity x (m .event))
+      cond (recordable table own identity x (m .event))
       ((between : List ℕ) × (so-far : ℕ)
       × Records table (meantBy table own identity (entryOf (steps table own identity) x waited m)) used before between (Used so-far)
       × Recording ms (steps table own identity .after x (m .event)) 0 so-far between after total)

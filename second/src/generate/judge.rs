@@ -4,6 +4,7 @@ use super::log::{bytes, damaged, true_run};
 use super::random::Random;
 use super::step::own;
 use crate::commands;
+use crate::tables::TABLES;
 
 /// The entry "join in U0" of document 01's whole log.
 const JOIN_IN_U0: [u8; 7] = [0, 3, 3, 0, 0, 0, 0];
@@ -15,7 +16,7 @@ pub fn command(random: &mut Random, long: bool) -> String {
     }
     let (walk, log) = match random.below(5) {
         0 | 1 => {
-            let log = bytes(&run.entries);
+            let log = run.log();
             (run, log)
         }
         _ => damaged(random, run),
@@ -31,7 +32,7 @@ pub fn command(random: &mut Random, long: bool) -> String {
 /// A log of 65,535, 65,536 or 65,537 bytes: 9,362 entries of seven bytes behind
 /// the version, none, one or two of them with a delta that takes two bytes.
 fn long_log(random: &mut Random) -> Vec<u8> {
-    let mut log = vec![1];
+    let mut log = bytes(random.pick(&TABLES), &[]);
     let longer = random.pick(&[0, 1, 1, 2, 2]);
     for place in 0..9_362 {
         if place < longer {

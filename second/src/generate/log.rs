@@ -1,25 +1,29 @@
-//! Logs by chance: a true run, then in part damaged in one place.
+//! Logs by chance: a true run by one of the tables, then in part damaged in one
+//! place.
 
 use super::random::Random;
 use super::step::own;
 use super::walk::Walk;
 use crate::log::entry::Entry;
 use crate::log::number;
+use crate::tables::{Table, TABLES};
 
-/// The bytes of a log with these entries.
-pub fn bytes(entries: &[Entry]) -> Vec<u8> {
-    let mut log = vec![1];
+/// The bytes of a log with these entries, of this table's version.
+pub fn bytes(table: Table, entries: &[Entry]) -> Vec<u8> {
+    let mut log = Vec::new();
+    number::push(&mut log, table.version());
     for entry in entries {
-        entry.push(&mut log);
+        entry.push(table, &mut log);
     }
     log
 }
 
-/// A true run under one timer, sometimes of several calls.
+/// A true run by either table under one timer, sometimes of several calls.
 pub fn true_run(random: &mut Random) -> Walk {
+    let table = random.pick(&TABLES);
     let identity = own(random, u64::MAX);
     let conn_req = conn_req(random);
-    let mut walk = Walk::begin(identity, conn_req);
+    let mut walk = Walk::begin(table, identity, conn_req);
     let count = random.pick(&[0, 1, 2, 4, 6, 8, 10, 14, 20, 30]);
     walk.go(random, count);
     walk
@@ -37,24 +41,26 @@ pub fn conn_req(random: &mut Random) -> u64 {
 /// The run's log with one thing wrong, which now and then changes nothing.
 pub fn damaged(random: &mut Random, mut walk: Walk) -> (Walk, Vec<u8>) {
     let mut log = Vec::new();
-    match random.below(10) {
+    match random.below(12) {
         0 | 1 => claim(random, &mut walk.entries),
         2 | 3 => time(random, &mut walk.entries),
         4 => order(random, &mut walk.entries),
         5 => another_timer(random, &mut walk),
-        6 => log = longer_number(random, &walk.entries),
-        7 => {
-            log = bytes(&walk.entries);
+        6 => log = longer_number(random, walk.table, &walk.entries),
+        // As one of the other version, or of its own.
+        7 | 8 => log = bytes(random.pick(&TABLES), &walk.entries),
+        9 => {
+            log = walk.log();
             let count = random.length(1, 4);
             log.extend(random.octets(count));
         }
-        8 => {
-            log = bytes(&walk.entries);
+        10 => {
+            log = walk.log();
             let length = random.length(0, log.len());
             log.truncate(length);
         }
         _ => {
-            log = bytes(&walk.entries);
+            log = walk.log();
             let place = random.place(log.len());
             log[place] = match random.one_in(2) {
                 true => log[place] ^ 1 << random.below(8),
@@ -63,12 +69,13 @@ pub fn damaged(random: &mut Random, mut walk: Walk) -> (Walk, Vec<u8>) {
         }
     }
     if log.is_empty() {
-        log = bytes(&walk.entries);
+        log = walk.log();
     }
     (walk, log)
 }
 
-fn claim(random: &mut Random, entries: &mut [Entry]) {
+/// One field of one entry, mostly in its range.
+pub fn claim(random: &mut Random, entries: &mut [Entry]) {
     if entries.is_empty() {
         return;
     }
@@ -88,7 +95,7 @@ fn claim(random: &mut Random, entries: &mut [Entry]) {
 }
 
 /// One millisecond more or less, mostly at an expiry.
-fn time(random: &mut Random, entries: &mut [Entry]) {
+pub fn time(random: &mut Random, entries: &mut [Entry]) {
     if entries.is_empty() {
         return;
     }
@@ -131,9 +138,9 @@ fn another_timer(random: &mut Random, walk: &mut Walk) {
 }
 
 /// One entry's time, or the version, written a byte longer than it needs.
-fn longer_number(random: &mut Random, entries: &[Entry]) -> Vec<u8> {
+fn longer_number(random: &mut Random, table: Table, entries: &[Entry]) -> Vec<u8> {
     let chosen = random.place(entries.len() + 1);
-    let mut log = bytes(&entries[..chosen]);
+    let mut log = bytes(table, &entries[..chosen]);
     if chosen == entries.len() {
         log[0] |= 0x80;
         log.insert(1, 0);
@@ -143,11 +150,11 @@ fn longer_number(random: &mut Random, entries: &[Entry]) -> Vec<u8> {
     number::push(&mut longer, entries[chosen].delta);
     let length = longer.len();
     let mut rest = Vec::new();
-    entries[chosen].push(&mut rest);
+    entries[chosen].push(table, &mut rest);
     longer[length - 1] |= 0x80;
     longer.push(0);
     log.extend(longer);
     log.extend(&rest[length..]);
-    log.extend(&bytes(&entries[chosen + 1..])[1..]);
+    log.extend(&bytes(table, &entries[chosen + 1..])[1..]);
     log
 }

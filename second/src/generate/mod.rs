@@ -10,6 +10,7 @@ pub mod random;
 pub mod record;
 pub mod settings;
 pub mod step;
+pub mod versions;
 pub mod walk;
 pub mod write;
 

@@ -6,6 +6,7 @@ use super::random::Random;
 use crate::commands;
 use crate::event::Event;
 use crate::log::entry::Entry;
+use crate::tables::Table;
 
 pub fn command(random: &mut Random, long: bool) -> String {
     let mut entry = match random.one_in(2) {
@@ -16,7 +17,7 @@ pub fn command(random: &mut Random, long: bool) -> String {
         at_a_limit(random, &mut entry);
     }
     let mut added = Vec::new();
-    entry.push(&mut added);
+    entry.push(Table::NEWEST, &mut added);
     let used = match long {
         true => 65_536 - added.len().min(65_000) + random.length(0, 1),
         false => random.pick(&[0, 0, 1, 2, 9, 30]),

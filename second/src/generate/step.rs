@@ -8,7 +8,8 @@ use super::write::buffer_length;
 use crate::commands::{Identity, Step};
 use crate::context::Context;
 use crate::event::Event;
-use crate::state::{Parameters, STATES};
+use crate::state::{Parameters, State, STATES};
+use crate::tables::Table;
 use crate::timer::RunningTimers;
 
 pub fn command(random: &mut Random) -> String {
@@ -46,7 +47,8 @@ pub fn own(random: &mut Random, share: u64) -> Identity {
     }
 }
 
-/// A fit context of any state; start rows stand out among the parameters.
+/// A context of any state that is fit by the newest table; start rows stand out
+/// among the parameters.
 pub fn fit_context(random: &mut Random) -> Context {
     let state = random.pick(&STATES);
     loop {
@@ -56,17 +58,22 @@ pub fn fit_context(random: &mut Random) -> Context {
         }
         // Every state has a fit set among no timer and each single one.
         let timers = RunningTimers::from_number(random.pick(&[0, 1, 2, 4, 8]));
+        let remembered = match state {
+            State::U5 => Some(random.pick(Table::NEWEST.asked_from())),
+            _ => None,
+        };
         let mut context = Context {
             state,
             parameters,
             timers,
             transaction_value: random.below(7) as u8,
             reference: random.reference(),
+            remembered,
         };
         if state.number() == 0 {
             context = Context::cleared();
         }
-        if context.is_fit() {
+        if context.is_fit(Table::NEWEST) {
             return context;
         }
     }
@@ -74,7 +81,7 @@ pub fn fit_context(random: &mut Random) -> Context {
 
 fn event(random: &mut Random, context: &Context, own: &Identity) -> Event {
     match random.below(12) {
-        0..=3 => likely_event(random, context, &own.identity),
+        0..=3 => likely_event(random, Table::NEWEST, context, &own.identity),
         4 => Event {
             number: random.pick(&[0, 18, 19, 20, 255, 256, 65_536, 4_294_967_295]),
             ..filled(random)
@@ -138,17 +145,26 @@ fn message(random: &mut Random, context: &Context, own: &[u8]) -> Vec<u8> {
 }
 
 fn unfit(random: &mut Random, step: &mut Step) {
-    match random.below(7) {
+    match random.below(9) {
         0 => step.parameters = random.octet() & 15,
         1 => step.timers = random.octet() & 15,
         2 => step.transaction_value = random.pick(&[6, 7, 8, 255]),
         3 => step.state = random.pick(&[7, 8, 9, 255]),
         4 => step.state = random.octet() & 7,
         5 => step.reference = random.reference(),
+        6 => step.remembered = random.pick(&[0, 1, 2, 3, 4, 5, 6, 7, 8, 255]),
+        7 => in_u5_by_chance(random, step),
         _ => {
             step.parameters = random.octet() & 15;
             step.timers = random.octet() & 15;
             step.state = random.octet() & 15;
         }
     }
+}
+
+/// U5 with one timer or none and with anything remembered, fit or not.
+fn in_u5_by_chance(random: &mut Random, step: &mut Step) {
+    step.state = State::U5.number();
+    step.timers = random.pick(&[0, 4, 4, 8]);
+    step.remembered = random.pick(&[0, 1, 2, 3, 4, 255]);
 }

@@ -1,6 +1,7 @@
-//! True runs: entries that the step itself gives, under one T_conn req and
+//! True runs: entries that the step by one table gives, under one T_conn req and
 //! within the time rules, led so that they reach every state and every row.
 
+use super::log::bytes;
 use super::messages;
 use super::random::Random;
 use crate::commands::Identity;
@@ -11,10 +12,11 @@ use crate::message::Kind;
 use crate::own::Own;
 use crate::state::State;
 use crate::step::step;
-use crate::step::table::{Row, Trigger, STEP_TABLE};
-use crate::timer::TIMERS;
+use crate::step::table::{Next, Row, Trigger};
+use crate::tables::Table;
 
 pub struct Walk {
+    pub table: Table,
     pub own: Identity,
     pub context: Context,
     /// The one setting, T_conn req.
@@ -25,8 +27,9 @@ pub struct Walk {
 }
 
 impl Walk {
-    pub fn begin(own: Identity, conn_req: u64) -> Walk {
+    pub fn begin(table: Table, own: Identity, conn_req: u64) -> Walk {
         Walk {
+            table,
             own,
             context: Context::cleared(),
             conn_req,
@@ -37,10 +40,15 @@ impl Walk {
 
     pub fn go(&mut self, random: &mut Random, count: usize) {
         for _ in 0..count {
-            let event = likely_event(random, &self.context, &self.own.identity);
+            let event = likely_event(random, self.table, &self.context, &self.own.identity);
             let delta = self.delta(random, event.number);
             self.enter(event, delta);
         }
+    }
+
+    /// Its bytes as a log.
+    pub fn log(&self) -> Vec<u8> {
+        bytes(self.table, &self.entries)
     }
 
     /// Goes on until no call is left.
@@ -57,9 +65,9 @@ impl Walk {
             classmark: self.own.classmark,
             identity: &self.own.identity,
         };
-        let outcome = step(&self.context, &own, 255, &event);
+        let outcome = step(self.table, &self.context, &own, 255, &event);
         self.left = self.left.map(|left| left.saturating_sub(delta));
-        for row in &TIMERS {
+        for row in self.table.timers() {
             let before = self.context.timers.runs(row.timer);
             match (before, outcome.context.timers.runs(row.timer)) {
                 (false, true) => self.left = Some(row.milliseconds.unwrap_or(self.conn_req)),
@@ -85,7 +93,9 @@ impl Walk {
         let Some(left) = self.left else {
             return random.pick(&[0, 1, 127, 128, 999, 60_000, 16_384, 86_400_000]);
         };
-        let expires = TIMERS
+        let expires = self
+            .table
+            .timers()
             .iter()
             .any(|row| row.expiry == event && self.context.timers.runs(row.timer));
         match random.below(6) {
@@ -100,14 +110,14 @@ impl Walk {
 }
 
 /// An event in range that is likely to have a step in this context.
-pub fn likely_event(random: &mut Random, context: &Context, own: &[u8]) -> Event {
+pub fn likely_event(random: &mut Random, table: Table, context: &Context, own: &[u8]) -> Event {
     let flag = context.state.received_flag().unwrap_or(1);
     let value = context.transaction_value;
     let mode = u32::from(random.octet() & 1);
     match random.below(20) {
         0..=12 => {
-            let row = likely_row(random, context);
-            on_trigger(random, row.trigger, context, own)
+            let row = likely_row(random, table, context);
+            on_trigger(random, table, row.trigger, context, own)
         }
         13 | 14 => {
             let kind = random.pick(&[Kind::GetStatus, Kind::SetParameter]);
@@ -121,21 +131,21 @@ pub fn likely_event(random: &mut Random, context: &Context, own: &[u8]) -> Event
         }
         _ => {
             let number = random.between(1, 17) as u32;
-            on_trigger(random, Trigger::Event(number), context, own)
+            on_trigger(random, table, Trigger::Event(number), context, own)
         }
     }
 }
 
-/// A row that holds in this context; rows that end the call are mostly passed over.
-fn likely_row(random: &mut Random, context: &Context) -> &'static Row {
-    let rows: Vec<&Row> = STEP_TABLE
-        .iter()
+/// A row of this state; rows that end the call are mostly passed over.
+fn likely_row(random: &mut Random, table: Table, context: &Context) -> &'static Row {
+    let rows: Vec<&Row> = table
+        .rows()
         .filter(|row| row.states.contains(&context.state))
         .collect();
     let going_on: Vec<&Row> = rows
         .iter()
         .copied()
-        .filter(|row| row.next != State::U0)
+        .filter(|row| row.next != Next::To(State::U0))
         .collect();
     if going_on.is_empty() || random.one_in(4) {
         return random.pick(&rows);
@@ -143,7 +153,13 @@ fn likely_row(random: &mut Random, context: &Context) -> &'static Row {
     random.pick(&going_on)
 }
 
-fn on_trigger(random: &mut Random, trigger: Trigger, context: &Context, own: &[u8]) -> Event {
+fn on_trigger(
+    random: &mut Random,
+    table: Table,
+    trigger: Trigger,
+    context: &Context,
+    own: &[u8],
+) -> Event {
     let flag = context.state.received_flag().unwrap_or(1);
     let value = context.transaction_value;
     match trigger {
@@ -151,7 +167,7 @@ fn on_trigger(random: &mut Random, trigger: Trigger, context: &Context, own: &[u
             let mode = u32::from(random.octet() & 1);
             Event::received(mode, messages::good(random, kind, flag, value, own))
         }
-        Trigger::Event(number) if carries(number) == Some(Carries::Call) => {
+        Trigger::Event(number) if carries(table, number) == Some(Carries::Call) => {
             Event::call(number, random.below(7) as u32, random.reference())
         }
         Trigger::Event(number) => Event::plain(number),

@@ -6,7 +6,5 @@ pub mod judge;
 pub mod number;
 pub mod record;
 
-/// The number that begins a log.
-pub const VERSION: u32 = 1;
 /// The most bytes that a log may have.
 pub const LONGEST_LOG: usize = 65_536;

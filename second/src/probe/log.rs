@@ -7,6 +7,7 @@ use crate::log::entry::Entry;
 use crate::log::judge::{judge as judge_log, Judgement};
 use crate::log::record::record as record_entry;
 use crate::own::Own;
+use crate::tables::Table;
 
 /// `judge CKSN CLASSMARK IDENTITY LOG`
 pub fn judge(fields: &[&[u8]]) -> Option<String> {
@@ -55,7 +56,8 @@ pub fn record(fields: &[&[u8]]) -> Option<String> {
         actions: number(actions, u32::MAX)?,
         reply: octets(reply)?,
     };
-    Some(match record_entry(&mut buffer, used as usize, &entry) {
+    let recorded = record_entry(Table::NEWEST, &mut buffer, used as usize, &entry);
+    Some(match recorded {
         Err(answer) => answer.to_string(),
         Ok(used) => format!("{TAKEN} {used} {}", hexadecimal(&buffer)),
     })

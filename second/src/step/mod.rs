@@ -1,5 +1,5 @@
-//! The step: one event from one context (document 01, "Answer numbers" for the
-//! order of the tests, "Events and steps" for the rest).
+//! The step by a table: one event from one context (document 01, "Answer
+//! numbers" for the order of the tests, "Events and steps" for the rest).
 
 pub mod received;
 pub mod reply;
@@ -12,6 +12,7 @@ use crate::message::{Kind, Message, LONGEST_MESSAGE, SHORTEST_BUFFER};
 use crate::own::Own;
 use crate::reason::{Reason, NO_REASON};
 use crate::state::State;
+use crate::tables::Table;
 use table::{Effect, Row, Trigger};
 
 /// What a step leaves: the answer, why a message was ignored, the context
@@ -52,14 +53,20 @@ impl Outcome {
 }
 
 /// The tests in the order 7, 5, 6, 4, then the step proper.
-pub fn step(context: &Context, own: &Own, buffer_length: u32, event: &Event) -> Outcome {
-    if !context.is_fit() {
+pub fn step(
+    table: Table,
+    context: &Context,
+    own: &Own,
+    buffer_length: u32,
+    event: &Event,
+) -> Outcome {
+    if !context.is_fit(table) {
         return Outcome::quiet(context, CONTEXT_NOT_FIT);
     }
     if buffer_length < SHORTEST_BUFFER {
         return Outcome::quiet(context, BUFFER_SHORT);
     }
-    let carried = carries(event.number);
+    let carried = carries(table, event.number);
     if carried == Some(Carries::Message) && event.octets.len() > LONGEST_MESSAGE {
         return Outcome::quiet(context, MESSAGE_LONG);
     }
@@ -73,9 +80,9 @@ pub fn step(context: &Context, own: &Own, buffer_length: u32, event: &Event) -> 
         return Outcome::quiet(context, OUTSIDE_RANGE);
     }
     if carried == Some(Carries::Message) {
-        return received::step(context, own, event);
+        return received::step(table, context, own, event);
     }
-    match table::find(context, Trigger::Event(event.number)) {
+    match table::find(table, context, Trigger::Event(event.number)) {
         Some(row) => take(row, context, own, event, None),
         None => Outcome::quiet(context, NO_STEP),
     }
@@ -109,8 +116,9 @@ fn context_after(
     event: &Event,
     message: Option<&Message>,
 ) -> Context {
+    let next = row.next.from(context);
     // Entering U0 clears, whatever else the row does.
-    if row.next == State::U0 {
+    if next == State::U0 {
         return Context::cleared();
     }
     let mut after = context.clone();
@@ -127,12 +135,14 @@ fn context_after(
             Effect::Send(_) => (),
             Effect::Set(timer) => after.timers.turn(timer, true),
             Effect::Stop(timer) => after.timers.turn(timer, false),
+            Effect::Remember => after.remembered = Some(context.state),
+            Effect::Forget => after.remembered = None,
         }
     }
     // A step that stays in its state keeps the parameters.
-    if row.next != context.state {
-        after.state = row.next;
-        after.parameters = row.next.start_row();
+    if next != context.state {
+        after.state = next;
+        after.parameters = next.start_row();
     }
     after
 }

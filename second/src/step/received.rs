@@ -12,6 +12,7 @@ use crate::message::{Fields, Kind, Message, PROTOCOL_DISCRIMINATOR};
 use crate::own::Own;
 use crate::reason::Reason;
 use crate::state::Parameters;
+use crate::tables::Table;
 use table::Trigger;
 
 /// What becomes of a message before the step.
@@ -21,8 +22,8 @@ enum Reading {
     Step(Message),
 }
 
-pub fn step(context: &Context, own: &Own, event: &Event) -> Outcome {
-    match examine(context, own, event) {
+pub fn step(table: Table, context: &Context, own: &Own, event: &Event) -> Outcome {
+    match examine(table, context, own, event) {
         Reading::Ignored(reason) => Outcome::ignored(context, reason),
         Reading::Reported(cause) => report(context, cause, &event.octets),
         // Rule 6.
@@ -30,7 +31,8 @@ pub fn step(context: &Context, own: &Own, event: &Event) -> Outcome {
             Kind::GetStatus => get_status(context),
             Kind::SetParameter => set_parameter(context, &message.fields, &event.octets),
             kind => {
-                let row = table::find(context, Trigger::Message(kind)).expect("rule 2 saw its row");
+                let row = table::find(table, context, Trigger::Message(kind))
+                    .expect("rule 2 saw its row");
                 take(row, context, own, event, Some(&message))
             }
         },
@@ -38,7 +40,7 @@ pub fn step(context: &Context, own: &Own, event: &Event) -> Outcome {
 }
 
 /// Rules 1 to 5.
-fn examine(context: &Context, own: &Own, event: &Event) -> Reading {
+fn examine(table: Table, context: &Context, own: &Own, event: &Event) -> Reading {
     let octets = &event.octets;
     if let Some(reason) = no_concern_of_ours(context, octets) {
         return Reading::Ignored(reason);
@@ -47,7 +49,7 @@ fn examine(context: &Context, own: &Own, event: &Event) -> Reading {
         None => return Reading::Reported(MESSAGE_TYPE_NON_EXISTENT),
         Some(kind) => kind,
     };
-    if !compatible(context, kind) {
+    if !compatible(table, context, kind) {
         return Reading::Reported(NOT_COMPATIBLE_WITH_STATE);
     }
     let fields = match read_fields(kind, &octets[2..]) {
@@ -88,12 +90,12 @@ fn no_concern_of_ours(context: &Context, octets: &[u8]) -> Option<Reason> {
 
 /// Rule 2: a sentence (GET STATUS, SET PARAMETER in any state but U0) or a row
 /// in this state, and not a type that the MS sends.
-fn compatible(context: &Context, kind: Kind) -> bool {
+fn compatible(table: Table, context: &Context, kind: Kind) -> bool {
     if kind.sent_by_ms() {
         return false;
     }
     matches!(kind, Kind::GetStatus | Kind::SetParameter)
-        || table::find(context, Trigger::Message(kind)).is_some()
+        || table::find(table, context, Trigger::Message(kind)).is_some()
 }
 
 /// Rule 4: identities are compared octet for octet, length included. GET STATUS

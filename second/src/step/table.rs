@@ -1,16 +1,20 @@
-//! The step table of document 01, row by row in its order. Where a row of the
-//! paper gives two outcomes ("0 for 7; 8 for 14"; "32 if ..., else 0"), it
-//! stands here as two rows next to each other, the narrower one first: the
-//! first row that matches is the one taken.
+//! The step table of document 01, row by row in its order; where A2 of document
+//! 02 changes a row, the old and the new one stand next to each other, each
+//! with the tables that have it. Where a row of the paper gives two outcomes
+//! ("0 for 7; 8 for 14"; "32 if ..., else 0"), it stands here as two rows, the
+//! narrower one first: the first row that matches is the one taken.
 
 use crate::context::Context;
 use crate::event::*;
 use crate::message::Kind;
 use crate::state::State;
+use crate::tables::Table;
 use crate::timer::Timer;
 use Condition::*;
 use Effect::*;
+use Next::*;
 use State::*;
+use Table::*;
 use Timer::*;
 use Trigger::{Event as On, Message as Received};
 
@@ -36,6 +40,26 @@ pub enum Condition {
     OrigTrue,
 }
 
+/// Where a row leads.
+#[derive(Clone, Copy, PartialEq, Eq, Debug)]
+pub enum Next {
+    To(State),
+    /// To the state that is remembered.
+    Back,
+}
+
+impl Next {
+    /// The state that follows; the context is fit and has this row.
+    pub fn from(self, context: &Context) -> State {
+        match self {
+            To(state) => state,
+            Back => context
+                .remembered
+                .expect("a table that leads back remembers"),
+        }
+    }
+}
+
 #[derive(Clone, Copy, PartialEq, Eq, Debug)]
 pub enum Effect {
     /// Events 1, 2 and 10: their transaction value and reference.
@@ -46,30 +70,39 @@ pub enum Effect {
     /// Setting a timer that runs changes nothing: "unless running".
     Set(Timer),
     Stop(Timer),
+    /// The state that the row was taken in.
+    Remember,
+    Forget,
 }
 
 #[derive(Clone, PartialEq, Eq, Debug)]
 pub struct Row {
+    /// The tables that have this row.
+    pub tables: &'static [Table],
     pub states: &'static [State],
     pub condition: Condition,
     pub trigger: Trigger,
-    pub next: State,
+    pub next: Next,
     pub actions: u8,
     pub effects: &'static [Effect],
 }
 
+/// Rows that no broadcast table has otherwise.
+const BROADCAST: &[Table] = &[First, Second];
 const ALL_BUT_U0: &[State] = &[U0p, U1, U2, U3, U4, U5, U6];
 const U2_TO_U6: &[State] = &[U2, U3, U4, U5, U6];
 
 const fn row(
+    tables: &'static [Table],
     states: &'static [State],
     condition: Condition,
     trigger: Trigger,
-    next: State,
+    next: Next,
     actions: u8,
     effects: &'static [Effect],
 ) -> Row {
     Row {
+        tables,
         states,
         condition,
         trigger,
@@ -80,33 +113,41 @@ const fn row(
 }
 
 #[rustfmt::skip]
-pub const STEP_TABLE: [Row; 22] = [
-    row(&[U0],      Always,           On(SET_UP_REQUEST),                 U0p, REQUEST_MM_CONNECTION,      &[StoreCall, Set(MmEst)]),
-    row(&[U0],      Always,           On(IMMEDIATE_SET_UP_REQUEST),       U1,  NONE,                       &[StoreCall, Send(Kind::ImmediateSetup), Set(MmEst)]),
-    row(&[U0p],     Always,           On(MM_CONNECTION_ESTABLISHED),      U1,  NONE,                       &[Send(Kind::Setup), Stop(MmEst)]),
-    row(&[U0p, U1], With(MmEst),      On(MM_ESTABLISHMENT_FAILED),        U0,  NONE,                       &[]),
-    row(&[U0p, U1], With(MmEst),      On(EXPIRY_MM_EST),                  U0,  ABORT,                      &[]),
-    row(&[U0p, U1], Always,           On(RADIO_LINK_FAILURE),             U0,  ABORT,                      &[]),
-    row(&[U1],      With(MmEst),      Received(Kind::Connect),            U2,  MM_EXISTS_IMPLICITLY,       &[StoreItsReference, Stop(MmEst)]),
-    row(&[U0p, U1], Always,           Received(Kind::Connect),            U2,  NONE,                       &[StoreItsReference, Stop(MmEst)]),
-    row(&[U0],      Always,           On(BROADCAST_NOTIFIED),             U3,  INFORM,                     &[StoreCall]),
-    row(&[U3],      Always,           On(JOIN),                           U4,  REQUEST_GROUP_RECEIVE_MODE, &[Set(ConnReq)]),
-    row(&[U4],      Always,           On(GROUP_RECEIVE_MODE_ENTERED),     U6,  INFORM,                     &[Stop(ConnReq)]),
-    row(&[U4],      Always,           On(EXPIRY_CONN_REQ),                U0,  INFORM + ABORT,             &[]),
-    row(&[U6],      Always,           On(NO_CHANNEL),                     U6,  INFORM,                     &[Set(NoChannel)]),
-    row(&[U6],      Always,           On(CHANNEL_AVAILABLE),              U6,  INFORM,                     &[Stop(NoChannel)]),
-    row(&[U6],      With(NoChannel),  On(EXPIRY_NO_CHANNEL),              U0,  INFORM + ABORT,             &[]),
-    row(&[U1, U2],  OrigTrue,         On(TERMINATE),                      U5,  NONE,                       &[Send(Kind::TerminationRequest), Stop(MmEst), Set(Term)]),
-    row(&[U5],      Always,           Received(Kind::TerminationReject),  U5,  INFORM,                     &[Stop(Term)]),
-    row(&[U5],      With(Term),       On(EXPIRY_TERM),                    U0,  INFORM + ABORT,             &[]),
-    row(ALL_BUT_U0, Always,           Received(Kind::Termination),        U0,  INFORM + RELEASE_IT,        &[]),
-    row(ALL_BUT_U0, Always,           On(RELEASE),                        U0,  RELEASE_IT,                 &[]),
-    row(ALL_BUT_U0, Always,           On(ABORT_OR_RELEASE_DETECTED),      U0,  INFORM + ABORT,             &[]),
-    row(U2_TO_U6,   Always,           On(RADIO_LINK_FAILURE),             U0,  INFORM + ABORT,             &[]),
+const ROWS: [Row; 24] = [
+    row(BROADCAST,  &[U0],       Always,           On(SET_UP_REQUEST),                  To(U0p),  REQUEST_MM_CONNECTION,      &[StoreCall, Set(MmEst)]),
+    row(BROADCAST,  &[U0],       Always,           On(IMMEDIATE_SET_UP_REQUEST),        To(U1),   NONE,                       &[StoreCall, Send(Kind::ImmediateSetup), Set(MmEst)]),
+    row(BROADCAST,  &[U0p],      Always,           On(MM_CONNECTION_ESTABLISHED),       To(U1),   NONE,                       &[Send(Kind::Setup), Stop(MmEst)]),
+    row(BROADCAST,  &[U0p, U1],  With(MmEst),      On(MM_ESTABLISHMENT_FAILED),         To(U0),   NONE,                       &[]),
+    row(BROADCAST,  &[U0p, U1],  With(MmEst),      On(EXPIRY_MM_EST),                   To(U0),   ABORT,                      &[]),
+    row(BROADCAST,  &[U0p, U1],  Always,           On(RADIO_LINK_FAILURE),              To(U0),   ABORT,                      &[]),
+    row(BROADCAST,  &[U1],       With(MmEst),      Received(Kind::Connect),             To(U2),   MM_EXISTS_IMPLICITLY,       &[StoreItsReference, Stop(MmEst)]),
+    row(BROADCAST,  &[U0p, U1],  Always,           Received(Kind::Connect),             To(U2),   NONE,                       &[StoreItsReference, Stop(MmEst)]),
+    row(BROADCAST,  &[U0],       Always,           On(BROADCAST_NOTIFIED),              To(U3),   INFORM,                     &[StoreCall]),
+    row(BROADCAST,  &[U3],       Always,           On(JOIN),                            To(U4),   REQUEST_GROUP_RECEIVE_MODE, &[Set(ConnReq)]),
+    row(BROADCAST,  &[U4],       Always,           On(GROUP_RECEIVE_MODE_ENTERED),      To(U6),   INFORM,                     &[Stop(ConnReq)]),
+    row(BROADCAST,  &[U4],       Always,           On(EXPIRY_CONN_REQ),                 To(U0),   INFORM + ABORT,             &[]),
+    row(BROADCAST,  &[U6],       Always,           On(NO_CHANNEL),                      To(U6),   INFORM,                     &[Set(NoChannel)]),
+    row(BROADCAST,  &[U6],       Always,           On(CHANNEL_AVAILABLE),               To(U6),   INFORM,                     &[Stop(NoChannel)]),
+    row(BROADCAST,  &[U6],       With(NoChannel),  On(EXPIRY_NO_CHANNEL),               To(U0),   INFORM + ABORT,             &[]),
+    row(&[First],   &[U1, U2],   OrigTrue,         On(TERMINATE),                       To(U5),   NONE,                       &[Send(Kind::TerminationRequest), Stop(MmEst), Set(Term)]),
+    row(&[Second],  &[U1, U2],   OrigTrue,         On(TERMINATE),                       To(U5),   NONE,                       &[Send(Kind::TerminationRequest), Stop(MmEst), Set(Term), Remember]),
+    row(&[First],   &[U5],       Always,           Received(Kind::TerminationReject),   To(U5),   INFORM,                     &[Stop(Term)]),
+    row(&[Second],  &[U5],       Always,           Received(Kind::TerminationReject),   Back,     INFORM,                     &[Stop(Term), Forget]),
+    row(BROADCAST,  &[U5],       With(Term),       On(EXPIRY_TERM),                     To(U0),   INFORM + ABORT,             &[]),
+    row(BROADCAST,  ALL_BUT_U0,  Always,           Received(Kind::Termination),         To(U0),   INFORM + RELEASE_IT,        &[]),
+    row(BROADCAST,  ALL_BUT_U0,  Always,           On(RELEASE),                         To(U0),   RELEASE_IT,                 &[]),
+    row(BROADCAST,  ALL_BUT_U0,  Always,           On(ABORT_OR_RELEASE_DETECTED),       To(U0),   INFORM + ABORT,             &[]),
+    row(BROADCAST,  U2_TO_U6,    Always,           On(RADIO_LINK_FAILURE),              To(U0),   INFORM + ABORT,             &[]),
 ];
 
-pub fn find(context: &Context, trigger: Trigger) -> Option<&'static Row> {
-    STEP_TABLE.iter().find(|row| {
+impl Table {
+    pub fn rows(self) -> impl Iterator<Item = &'static Row> {
+        ROWS.iter().filter(move |row| row.tables.contains(&self))
+    }
+}
+
+pub fn find(table: Table, context: &Context, trigger: Trigger) -> Option<&'static Row> {
+    table.rows().find(|row| {
         row.trigger == trigger && row.states.contains(&context.state) && holds(row, context)
     })
 }

@@ -1,5 +1,5 @@
-//! Cases c1 to c10 of document 01 as logs in bytes, its whole log, and the
-//! number that it gives as an example.
+//! Cases c1 to c10 of document 01 as logs in bytes, which are of version 1, its
+//! whole log, and the number that it gives as an example.
 
 use super::expect;
 
@@ -100,9 +100,26 @@ fn an_unexplained_entry_hides_what_stands_behind() {
 
 #[test]
 fn version_in_other_forms() {
-    for log in ["00", "02", "8100", "80", "81808000", "ffffffff0f"] {
+    for log in [
+        "00",
+        "03",
+        "10",
+        "7f",
+        "8100",
+        "8200",
+        "80",
+        "8001",
+        "8101",
+        "8002",
+        "81808000",
+        "82808000",
+        "ffffffff0f",
+    ] {
         judged(log, "8 0");
     }
+    judged("02", "0 0 10000 30000");
+    judged("0200030300000000", "0 1 10000 30000");
+    judged("028000", "8 1");
 }
 
 #[test]

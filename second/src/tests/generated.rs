@@ -1,14 +1,16 @@
-//! What is made by chance holds together: true runs are accepted and reach
-//! every row, what was written is read back, what was recorded is judged.
+//! What is made by chance holds together: true runs are accepted under their own
+//! version and reach every row, what was written is read back, what was recorded
+//! is judged.
 
-use crate::generate::log::{bytes, true_run};
+use crate::generate::log::true_run;
 use crate::generate::random::Random;
-use crate::generate::{self, walk::Walk};
+use crate::generate::{self, versions, walk::Walk};
 use crate::log::judge::{judge, Judgement};
 use crate::log::record::record;
 use crate::own::Own;
 use crate::probe::answer;
-use crate::step::table::STEP_TABLE;
+use crate::step::table::Row;
+use crate::tables::{Table, TABLES};
 
 fn commands(seed: u64, count: u64, word: &str) -> Vec<String> {
     let mut lines = Vec::new();
@@ -34,7 +36,7 @@ fn true_runs_are_accepted() {
     let mut random = Random::from_seed(1);
     for _ in 0..2_000 {
         let run = true_run(&mut random);
-        match judged(&run, &bytes(&run.entries)) {
+        match judged(&run, &run.log()) {
             Judgement::Accepted {
                 count,
                 least,
@@ -51,27 +53,35 @@ fn true_runs_are_accepted() {
 
 #[test]
 fn true_runs_reach_every_row_and_answer() {
-    let mut random = Random::from_seed(2);
-    let mut rows = [0; STEP_TABLE.len()];
-    let mut answers = [0; 4];
-    for _ in 0..3_000 {
-        let run = true_run(&mut random);
-        let mut again = Walk::begin(run.own.clone(), run.conn_req);
-        for entry in &run.entries {
-            answers[entry.answer as usize] += 1;
-            for (place, row) in STEP_TABLE.iter().enumerate() {
-                let taken = row.states.contains(&again.context.state)
-                    && entry.answer == 0
-                    && entry.state == u32::from(row.next.number())
-                    && entry.actions == u32::from(row.actions)
-                    && triggered(&row.trigger, entry);
-                rows[place] += u32::from(taken);
+    for table in TABLES {
+        let mut random = Random::from_seed(2);
+        let mut rows: Vec<(&Row, u32)> = table.rows().map(|row| (row, 0)).collect();
+        let mut answers = [0; 4];
+        for run in (0..6_000).map(|_| true_run(&mut random)) {
+            if run.table == table {
+                count_rows(&run, &mut rows, &mut answers);
             }
-            again.enter(entry.event.clone(), u64::from(entry.delta));
         }
+        assert!(rows.iter().all(|(_, count)| *count > 0), "{rows:?}");
+        assert!(answers.iter().all(|&count| count > 100), "{answers:?}");
     }
-    assert!(rows.iter().all(|&count| count > 0), "{rows:?}");
-    assert!(answers.iter().all(|&count| count > 100), "{answers:?}");
+}
+
+/// How often each row was taken, and each answer given.
+fn count_rows(run: &Walk, rows: &mut [(&Row, u32)], answers: &mut [u32; 4]) {
+    let mut again = Walk::begin(run.table, run.own.clone(), run.conn_req);
+    for entry in &run.entries {
+        answers[entry.answer as usize] += 1;
+        for (row, count) in rows.iter_mut() {
+            let taken = row.states.contains(&again.context.state)
+                && entry.answer == 0
+                && triggered(&row.trigger, entry)
+                && entry.state == u32::from(row.next.from(&again.context).number())
+                && entry.actions == u32::from(row.actions);
+            *count += u32::from(taken);
+        }
+        again.enter(entry.event.clone(), u64::from(entry.delta));
+    }
 }
 
 fn triggered(trigger: &crate::step::table::Trigger, entry: &crate::log::entry::Entry) -> bool {
@@ -112,12 +122,12 @@ fn what_was_recorded_is_judged() {
         let mut buffer = vec![0xEE; 20_000];
         let mut used = 0;
         for entry in &run.entries {
-            used = record(&mut buffer, used, entry).unwrap();
+            used = record(run.table, &mut buffer, used, entry).unwrap();
         }
         if run.entries.is_empty() {
             continue;
         }
-        assert_eq!(buffer[..used], bytes(&run.entries));
+        assert_eq!(buffer[..used], run.log());
         assert!(buffer[used..].iter().all(|&byte| byte == 0xEE));
         assert!(matches!(
             judged(&run, &buffer[..used]),
@@ -139,7 +149,7 @@ fn every_reason_is_reached_often() {
     let mut reasons = [0; 7];
     for line in commands(8, 20_000, "step") {
         let answered = answer(line.as_bytes());
-        if let Some(reason) = answered.split(' ').nth(8) {
+        if let Some(reason) = answered.split(' ').nth(9) {
             reasons[reason.parse::<usize>().unwrap()] += 1;
         }
     }
@@ -164,4 +174,19 @@ fn every_answer_number_is_reached() {
     assert_eq!(reached("settings"), "0 12 ?");
     assert_eq!(reached("judge"), "0 10 4 8 9 ?");
     assert_eq!(reached("record"), "0 10 11 4 ?");
+}
+
+#[test]
+fn runs_by_each_table_are_judged_under_each_version() {
+    let mut random = Random::from_seed(9);
+    for table in TABLES.into_iter().cycle().take(400) {
+        let lines = versions::round(&mut random, table);
+        // True and changed, each under 1 and under 2.
+        assert_eq!(lines.len(), 4);
+        let own = usize::from(table == Table::Second);
+        assert!(answer(lines[own].as_bytes()).starts_with("0 "));
+        let entries = |line: &str| line.rsplit_once(' ').expect("a log").1[2..].to_string();
+        assert_eq!(entries(&lines[0]), entries(&lines[1]));
+        assert_eq!(entries(&lines[2]), entries(&lines[3]));
+    }
 }

@@ -12,6 +12,7 @@ mod optional;
 mod reasons;
 mod received;
 mod recorder;
+mod returns;
 mod settings;
 mod steps;
 mod tables;
@@ -45,5 +46,5 @@ fn step_with_reason(context: &str, event: &str, answer: &str, reason: u8) {
 
 /// The cleared context with answer 0 and these actions, in the form of an answer.
 pub fn cleared(actions: u8) -> String {
-    format!("0 0 0 0 0 00000000 {actions} -")
+    format!("0 0 0 0 0 00000000 0 {actions} -")
 }

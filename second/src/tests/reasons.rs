@@ -8,26 +8,27 @@ use crate::event::Event;
 use crate::generate::walk::Walk;
 use crate::log::record::record;
 use crate::probe::tokens::hexadecimal;
+use crate::tables::Table;
 
-const U0: &str = "0 0 0 0 00000000";
+const U0: &str = "0 0 0 0 00000000 0";
 /// Each state but U0, once with COMM true where that is consistent and once
 /// with COMM false, and the first octet that a message needs there.
 const COMM_TRUE: [(&str, &str); 4] = [
-    ("1 12 8 5 0a0b0c0d", "d1"),
-    ("2 12 8 5 0a0b0c0d", "d1"),
-    ("3 15 0 5 0a0b0c0d", "d1"),
-    ("6 15 4 5 0a0b0c0d", "d1"),
+    ("1 12 8 5 0a0b0c0d 0", "d1"),
+    ("2 12 8 5 0a0b0c0d 0", "d1"),
+    ("3 15 0 5 0a0b0c0d 0", "d1"),
+    ("6 15 4 5 0a0b0c0d 3", "d1"),
 ];
 const COMM_FALSE: [(&str, &str); 7] = [
-    ("1 8 8 5 0a0b0c0d", "d1"),
-    ("2 8 0 5 0a0b0c0d", "d1"),
-    ("3 11 0 5 0a0b0c0d", "d1"),
-    ("4 0 0 5 0a0b0c0d", "51"),
-    ("5 0 2 5 0a0b0c0d", "51"),
-    ("6 11 4 5 0a0b0c0d", "d1"),
-    ("7 2 1 5 0a0b0c0d", "51"),
+    ("1 8 8 5 0a0b0c0d 0", "d1"),
+    ("2 8 0 5 0a0b0c0d 0", "d1"),
+    ("3 11 0 5 0a0b0c0d 0", "d1"),
+    ("4 0 0 5 0a0b0c0d 0", "51"),
+    ("5 0 2 5 0a0b0c0d 0", "51"),
+    ("6 11 4 5 0a0b0c0d 3", "d1"),
+    ("7 2 1 5 0a0b0c0d 0", "51"),
 ];
-const U2: &str = "3 15 0 5 0a0b0c0d";
+const U2: &str = "3 15 0 5 0a0b0c0d 0";
 
 /// Ignored for this reason in either mode.
 fn ignored(context: &str, octets: &str, reason: u8) {
@@ -174,7 +175,11 @@ fn comm_false_and_no_row_in_the_state() {
 
 #[test]
 fn comm_false_and_a_connect_for_another() {
-    for context in ["1 8 8 5 0a0b0c0d", "2 8 8 5 0a0b0c0d", "2 8 0 5 0a0b0c0d"] {
+    for context in [
+        "1 8 8 5 0a0b0c0d 0",
+        "2 8 8 5 0a0b0c0d 0",
+        "2 8 0 5 0a0b0c0d 0",
+    ] {
         ignored(context, "d1.33.01020304.00", 6);
         ignored(context, "d1.33.01020304.fe", 6);
         ignored(context, "d1.33.01020304", 6);
@@ -183,7 +188,11 @@ fn comm_false_and_a_connect_for_another() {
 
 #[test]
 fn comm_false_and_inconsistent_parameters() {
-    for context in ["4 0 0 5 0a0b0c0d", "5 0 2 5 0a0b0c0d", "7 2 0 5 0a0b0c0d"] {
+    for context in [
+        "4 0 0 5 0a0b0c0d 0",
+        "5 0 2 5 0a0b0c0d 0",
+        "7 2 0 5 0a0b0c0d 0",
+    ] {
         for attributes in ["01", "02", "03", "0f", "f1", "f2"] {
             ignored(context, &format!("51.3a.{attributes}"), 6);
         }
@@ -195,12 +204,12 @@ fn answers_that_ignore_nothing_have_reason_0() {
     // 7 by a number that is no state and by a state that is not fit, 5, 6, 4.
     let long = "51".repeat(252);
     expect(
-        "step 9 0 0 0 00000000 3 3359a2 29f1 255 18 0 00000000 0 -",
-        "7 9 0 0 0 00000000 0 - 0",
+        "step 9 0 0 0 00000000 0 3 3359a2 29f1 255 18 0 00000000 0 -",
+        "7 9 0 0 0 00000000 0 0 - 0",
     );
     expect(
-        "step 0 4 0 0 00000000 3 3359a2 29f1 255 18 0 00000000 0 -",
-        "7 0 4 0 0 00000000 0 - 0",
+        "step 0 4 0 0 00000000 0 3 3359a2 29f1 255 18 0 00000000 0 -",
+        "7 0 4 0 0 00000000 0 0 - 0",
     );
     expect(
         &format!("step {U0} 3 3359a2 29f1 254 18 0 00000000 0 -"),
@@ -219,7 +228,7 @@ fn answers_that_ignore_nothing_have_reason_0() {
         "18 0 00000000 1 d1.00",
         &format!("2 {U2} 0 51.38.03.e1.d100.a2.bf"),
     );
-    expect_step(U2, "18 0 00000000 1 d1.3a.00", "0 3 0 0 5 0a0b0c0d 0 -");
+    expect_step(U2, "18 0 00000000 1 d1.3a.00", "0 3 0 0 5 0a0b0c0d 0 0 -");
 }
 
 /// A call that is joined, five messages that are ignored in U6, the release,
@@ -247,16 +256,16 @@ fn the_log_writes_1_for_all_six() {
         classmark: [0x33, 0x59, 0xA2],
         identity: vec![0x29, 0xF1],
     };
-    let mut walk = Walk::begin(own, 10_000);
+    let mut walk = Walk::begin(Table::NEWEST, own, 10_000);
     let (mut log, mut used) = (vec![0; 200], 0);
     for event in ignored_in_turn() {
         walk.enter(event, 0);
         let entry = walk.entries.last().expect("the one just entered");
-        used = record(&mut log, used, entry).expect("there is room");
+        used = record(walk.table, &mut log, used, entry).expect("there is room");
     }
     // Delta, event, mode, length, octets; answer 1, U6, D-ATT, no action, no
     // reply; then the release, and the last one in U0.
-    let expected = "01 000a05010203040004000100 00030005000400 000b0007020100 \
+    let expected = "02 000a05010203040004000100 00030005000400 000b0007020100 \
         001201000107020000 0012010252390107020000 0012010241390107020000 \
         0012010551391701290107020000 0012010251390107020000 \
         00050000001000 0012010251390100000000";
@@ -265,7 +274,7 @@ fn the_log_writes_1_for_all_six() {
     let judge = format!("judge 3 3359a2 29f1 {expected}");
     expect(&judge, "0 10 10000 30000");
     // What the log does not tell: 2, 3, 4, 5, 6 and 1.
-    let context = "7 2 0 5 01020304";
+    let context = "7 2 0 5 01020304 0";
     expect_ignored(context, 1, "-", 2);
     expect_ignored(context, 1, "5239", 3);
     expect_ignored(context, 1, "4139", 4);

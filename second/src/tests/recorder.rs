@@ -1,18 +1,18 @@
-//! The recorder (document 01, "The log").
+//! The recorder (document 01, "The log"), which begins logs with 2 (document 02, A2).
 
 use super::expect;
 
 const JOIN: &str = "3 0 00000000 0 - 3 0 0 0 -";
 
 #[test]
-fn the_whole_log_of_document_01() {
+fn the_entry_of_document_01() {
     expect(
         &format!("record eeeeeeeeeeeeeeeeee 0 0 {JOIN}"),
-        "0 8 0100030300000000.ee",
+        "0 8 0200030300000000.ee",
     );
     expect(
         &format!("record eeeeeeeeeeeeeeee 0 0 {JOIN}"),
-        "0 8 0100030300000000",
+        "0 8 0200030300000000",
     );
     expect(&format!("record eeeeeeeeeeeeee 0 0 {JOIN}"), "11");
     expect(&format!("record - 0 0 {JOIN}"), "11");
@@ -20,7 +20,12 @@ fn the_whole_log_of_document_01() {
 
 #[test]
 fn behind_the_bytes_used() {
-    // 300 is AC 02; what is used isn't looked at.
+    // 300 is AC 02; what is used isn't looked at, so a log that another version
+    // began goes on.
+    expect(
+        &format!("record 01ffffffffffffffffff 1 300 {JOIN}"),
+        "0 9 01.ac02030300000000.ff",
+    );
     expect(
         &format!("record eeffffffffffffffffffff 1 300 {JOIN}"),
         "0 9 ee.ac02030300000000.ffff",

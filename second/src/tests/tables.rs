@@ -1,10 +1,12 @@
-//! Properties of the tables: start rows, fitness, and that steps keep contexts fit.
+//! Properties of the tables: start rows, fitness by each step table, and that
+//! steps keep contexts fit.
 
 use crate::context::Context;
 use crate::event::Event;
 use crate::own::Own;
 use crate::state::{Parameters, State, STATES};
 use crate::step::step;
+use crate::tables::{Table, TABLES};
 use crate::timer::RunningTimers;
 
 const OWN: Own = Own {
@@ -13,19 +15,26 @@ const OWN: Own = Own {
     identity: &[0x29, 0xF1],
 };
 
-/// Every context of state, parameters and timers, value 0 or 5.
+/// Every context of state, parameters, timers and what is remembered, value 0,
+/// 5 or 7.
 fn contexts() -> Vec<Context> {
     let mut all = Vec::new();
     for state in STATES {
         for number in 0..=255u8 {
             for transaction_value in [0, 5, 7] {
-                all.push(Context {
+                let plain = Context {
                     state,
                     parameters: Parameters::from_number(number >> 4),
                     timers: RunningTimers::from_number(number & 15),
                     transaction_value,
                     reference: [0; 4],
-                });
+                    remembered: None,
+                };
+                all.extend(STATES.map(|state| Context {
+                    remembered: Some(state),
+                    ..plain.clone()
+                }));
+                all.push(plain);
             }
         }
     }
@@ -35,24 +44,65 @@ fn contexts() -> Vec<Context> {
 #[test]
 fn fit_contexts_are_counted() {
     // By hand, of 16 rows and 16 sets of timers: U0 1 * 1 (value 0 alone);
-    // U0.p 16 * 1; U1 16 * 2; U2 16 * 1; U3 4 * 1; U4 4 * 1; U5 16 * 2; U6 4 * 2.
+    // U0.p 16 * 1; U1 16 * 2; U2 16 * 1; U3 4 * 1; U4 4 * 1; U6 4 * 2. In U5 the
+    // first table has 16 * 2 with nothing remembered, the second 16 * 1 with
+    // one of two states remembered.
     let expected = [1, 16, 32, 16, 4, 4, 32, 8];
-    for state in STATES {
-        let fit = contexts()
-            .iter()
-            .filter(|context| context.state == state && context.is_fit())
-            .count();
-        let values = if state == State::U0 { 1 } else { 2 };
-        assert_eq!(fit, values * expected[usize::from(state.number())]);
+    let contexts = contexts();
+    for table in TABLES {
+        for state in STATES {
+            let fit = contexts
+                .iter()
+                .filter(|context| context.state == state && context.is_fit(table))
+                .count();
+            let values = if state == State::U0 { 1 } else { 2 };
+            assert_eq!(fit, values * expected[usize::from(state.number())]);
+        }
+    }
+}
+
+#[test]
+fn the_tables_part_in_u5_alone() {
+    for context in contexts() {
+        let [first, second] = TABLES.map(|table| context.is_fit(table));
+        if context.state != State::U5 {
+            assert_eq!(first, second);
+            assert!(!first || context.remembered.is_none());
+            continue;
+        }
+        // Only the number 4, T_term alone, is a fit set that is not empty.
+        let value_fits = context.transaction_value <= 6;
+        let timers = context.timers.number();
+        let remembered = context.remembered;
+        assert_eq!(
+            first,
+            value_fits && [0, 4].contains(&timers) && remembered.is_none()
+        );
+        assert_eq!(
+            second,
+            value_fits && timers == 4 && [Some(State::U1), Some(State::U2)].contains(&remembered)
+        );
     }
 }
 
 #[test]
 fn u0_is_cleared_or_not_fit() {
-    let mut context = Context::cleared();
-    assert!(context.is_fit());
-    context.reference = [0, 0, 0, 1];
-    assert!(!context.is_fit());
+    for table in TABLES {
+        let mut context = Context::cleared();
+        assert!(context.is_fit(table));
+        context.reference = [0, 0, 0, 1];
+        assert!(!context.is_fit(table));
+    }
+}
+
+#[test]
+fn versions() {
+    assert_eq!(Table::of_version(1), Some(Table::First));
+    assert_eq!(Table::of_version(2), Some(Table::Second));
+    for version in [0, 3, 4, 15, 16, 17, 129, 4_294_967_295] {
+        assert_eq!(Table::of_version(version), None);
+    }
+    assert_eq!(Table::NEWEST, Table::Second);
 }
 
 #[test]
@@ -66,25 +116,32 @@ fn every_step_keeps_the_context_fit() {
             }
         }
     }
-    for context in contexts().iter().filter(|context| context.is_fit()) {
-        for number in 1..=17 {
-            let event = Event::call(number, 6, [1, 2, 3, 4]);
-            let outcome = step(context, &OWN, 255, &event);
-            assert!(outcome.context.is_fit() && [0, 3].contains(&outcome.answer));
-            assert!(outcome.actions <= 63);
-            assert_eq!(outcome.reason, None);
-        }
-        for octets in &received {
-            let outcome = step(context, &OWN, 255, &Event::received(1, octets.clone()));
-            assert!(outcome.context.is_fit() && outcome.answer <= 2);
-            assert!(outcome.answer == 0 || outcome.context == *context);
-            assert_eq!(outcome.reason.is_some(), outcome.answer == 1);
-            assert_eq!(
-                outcome.answer == 2,
-                outcome.answer != 0 && !outcome.reply.is_empty()
-            );
+    for table in TABLES {
+        for context in contexts().iter().filter(|context| context.is_fit(table)) {
+            for number in 1..=17 {
+                let event = Event::call(number, 6, [1, 2, 3, 4]);
+                let outcome = step(table, context, &OWN, 255, &event);
+                assert!(outcome.context.is_fit(table) && [0, 3].contains(&outcome.answer));
+                assert!(outcome.actions <= 63);
+                assert_eq!(outcome.reason, None);
+            }
+            for octets in &received {
+                let event = Event::received(1, octets.clone());
+                stays_fit_when_it_hears(table, context, &event);
+            }
         }
     }
+}
+
+fn stays_fit_when_it_hears(table: Table, context: &Context, event: &Event) {
+    let outcome = step(table, context, &OWN, 255, event);
+    assert!(outcome.context.is_fit(table) && outcome.answer <= 2);
+    assert!(outcome.answer == 0 || outcome.context == *context);
+    assert_eq!(outcome.reason.is_some(), outcome.answer == 1);
+    assert_eq!(
+        outcome.answer == 2,
+        outcome.answer != 0 && !outcome.reply.is_empty()
+    );
 }
 
 #[test]

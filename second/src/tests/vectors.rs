@@ -1,9 +1,11 @@
 //! The fixed sets show every answer and every row, and are not too long.
 
 use crate::probe::{answer, WORDS};
-use crate::step::table::{Trigger, STEP_TABLE};
+use crate::state::State;
+use crate::step::table::{Next, Trigger};
+use crate::tables::Table;
 use crate::vectors::lines;
-use std::collections::BTreeSet;
+use std::collections::{BTreeSet, HashMap};
 
 /// The answer numbers that a word's set comes to, in order.
 fn reached(word: &str) -> Vec<String> {
@@ -38,23 +40,34 @@ fn every_row_is_taken() {
         .filter(|(answered, _)| answered.starts_with("0 "))
         .map(|(answered, line)| (line, answered))
         .collect();
-    for row in &STEP_TABLE {
-        for state in row.states {
+    for row in Table::NEWEST.rows() {
+        for (state, next) in row.states.iter().flat_map(|state| leads(*state, row.next)) {
             let found = asked.iter().any(|(line, answered)| {
                 let given: Vec<&str> = line.split(' ').collect();
                 let got: Vec<&str> = answered.split(' ').collect();
                 let event = match row.trigger {
-                    Trigger::Event(number) => given[10] == number.to_string(),
+                    Trigger::Event(number) => given[11] == number.to_string(),
                     Trigger::Message(kind) => {
-                        given[10] == "18" && given[14][2..4] == format!("{:02x}", kind.type_octet())
+                        given[11] == "18" && given[15][2..4] == format!("{:02x}", kind.type_octet())
                     }
                 };
                 event
                     && given[1] == state.number().to_string()
-                    && got[1] == row.next.number().to_string()
-                    && got[6] == row.actions.to_string()
+                    && got[1] == next.number().to_string()
+                    && got[7] == row.actions.to_string()
             });
-            assert!(found, "{state:?} {row:?}");
+            assert!(found, "{state:?} {next:?} {row:?}");
+        }
+    }
+}
+
+/// The state, with each that a row can lead to from it.
+fn leads(state: State, next: Next) -> Vec<(State, State)> {
+    match next {
+        Next::To(next) => vec![(state, next)],
+        Next::Back => {
+            let asked_from = Table::NEWEST.asked_from().iter();
+            asked_from.map(|next| (state, *next)).collect()
         }
     }
 }
@@ -67,12 +80,12 @@ fn every_pair_without_a_row_is_there() {
         .collect();
     for state in crate::state::STATES {
         for event in 1..=17 {
-            let has_row = STEP_TABLE
-                .iter()
+            let has_row = Table::NEWEST
+                .rows()
                 .any(|row| row.states.contains(&state) && row.trigger == Trigger::Event(event));
             let found = no_step.iter().any(|line| {
                 let given: Vec<&str> = line.split(' ').collect();
-                given[1] == state.number().to_string() && given[10] == event.to_string()
+                given[1] == state.number().to_string() && given[11] == event.to_string()
             });
             assert!(has_row || found, "{state:?} {event}");
         }
@@ -88,8 +101,8 @@ fn ignored() -> BTreeSet<(u8, u8, u8)> {
         .filter(|(_, answered)| answered.starts_with("1 "))
         .map(|(line, answered)| {
             let given: Vec<&str> = line.split(' ').collect();
-            let reason = answered.rsplit(' ').next().expect("nine tokens");
-            (number(given[1]), number(given[13]), number(reason))
+            let reason = answered.rsplit(' ').next().expect("ten tokens");
+            (number(given[1]), number(given[14]), number(reason))
         })
         .collect()
 }
@@ -107,6 +120,25 @@ fn every_reason_is_there_where_it_can_be() {
     // Only an unacknowledged message can be for another.
     possible.extend((1..=7).map(|state| (state, 1, 5)));
     assert_eq!(ignored(), possible);
+}
+
+#[test]
+fn logs_under_both_numbers_are_there() {
+    let answers: HashMap<String, String> = lines("judge")
+        .into_iter()
+        .map(|line| (line.clone(), answer(line.as_bytes())))
+        .collect();
+    // The same entries behind 1 and behind 2: accepted by both, by one, by none.
+    let mut accepted = BTreeSet::new();
+    for (line, first) in &answers {
+        if let Some((head, entries)) = line.split_once(" 29f1 01") {
+            let other = format!("{head} 29f1 02{entries}");
+            if let Some(second) = answers.get(&other) {
+                accepted.insert((first.starts_with("0 "), second.starts_with("0 ")));
+            }
+        }
+    }
+    assert_eq!(accepted.len(), 4);
 }
 
 #[test]

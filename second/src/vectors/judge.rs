@@ -1,11 +1,13 @@
 //! The fixed set for `judge`: the cases of document 01, true runs through every
-//! row of the step table, and the same with each claim changed or the end cut.
+//! row of its step table, and the same with each claim changed or the end cut.
+//! These are logs of version 1; `judge_versions` has those of version 2.
 
 use crate::commands::{judge, Identity};
 use crate::event::Event;
 use crate::generate::log::bytes;
 use crate::generate::walk::Walk;
 use crate::log::entry::Entry;
+use crate::tables::Table;
 
 /// The settings of every log here but those about settings.
 pub fn own() -> Identity {
@@ -20,10 +22,10 @@ pub fn own() -> Identity {
 /// Events 1, 2 and 10 carry value 5 and reference 0A 0B 0C 0D.
 pub type Line = (u64, u32, &'static [u8]);
 
-/// A true run of a script. What it claims is what the step gives; whether its
-/// times are allowed is the script's own affair.
-pub fn run(script: &[Line]) -> Vec<Entry> {
-    let mut walk = Walk::begin(own(), 12_000);
+/// A true run of a script by a table. What it claims is what the step gives;
+/// whether its times are allowed is the script's own affair.
+pub fn run(table: Table, script: &[Line]) -> Vec<Entry> {
+    let mut walk = Walk::begin(table, own(), 12_000);
     for &(delta, number, octets) in script {
         let event = match number {
             1 | 2 | 10 => Event::call(number, 5, [0x0A, 0x0B, 0x0C, 0x0D]),
@@ -33,6 +35,11 @@ pub fn run(script: &[Line]) -> Vec<Entry> {
         walk.enter(event, delta);
     }
     walk.entries
+}
+
+/// The same as a log of this table's version.
+pub fn true_log(table: Table, script: &[Line]) -> Vec<u8> {
+    bytes(table, &run(table, script))
 }
 
 pub fn push(lines: &mut Vec<String>, log: &[u8]) {
@@ -159,12 +166,12 @@ pub const SCRIPTS: [&[Line]; 14] = [
 pub fn all(lines: &mut Vec<String>) {
     cases(lines);
     for script in SCRIPTS {
-        let entries = run(script);
-        push(lines, &bytes(&entries));
-        claims(lines, &entries);
+        let entries = run(Table::First, script);
+        push(lines, &bytes(Table::First, &entries));
+        claims(lines, Table::First, &entries);
     }
     let whole: Vec<Line> = SCRIPTS.concat();
-    let log = bytes(&run(&whole));
+    let log = true_log(Table::First, &whole);
     push(lines, &log);
     for length in 0..220 {
         push(lines, &log[..length]);
@@ -223,13 +230,13 @@ fn cases(lines: &mut Vec<String>) {
     push(lines, &[0x01, 0x80, 0x00]); // c4
     let joined: &[Line] = &[(0, 10, NONE), (0, 3, NONE)];
     for script in JOINED_THEN {
-        push(lines, &bytes(&run(&[joined, script].concat())));
+        push(lines, &true_log(Table::First, &[joined, script].concat()));
     }
-    push(lines, &bytes(&run(&[(0, 18, TERMINATION)]))); // c9
+    push(lines, &true_log(Table::First, &[(0, 18, TERMINATION)])); // c9
 }
 
 /// Each claim of each entry changed by itself, and the entry left out.
-fn claims(lines: &mut Vec<String>, entries: &[Entry]) {
+pub fn claims(lines: &mut Vec<String>, table: Table, entries: &[Entry]) {
     for place in 0..entries.len() {
         for change in 0..8 {
             let mut changed = entries.to_vec();
@@ -250,7 +257,7 @@ fn claims(lines: &mut Vec<String>, entries: &[Entry]) {
                     changed.remove(place);
                 }
             }
-            push(lines, &bytes(&changed));
+            push(lines, &bytes(table, &changed));
         }
     }
 }

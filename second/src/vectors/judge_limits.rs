@@ -3,17 +3,24 @@
 
 use super::judge::{own, push};
 use crate::commands::judge;
+use crate::generate::log::bytes;
 use crate::log::number;
+use crate::tables::Table;
 
 pub fn all(lines: &mut Vec<String>) {
     settings(lines);
     versions(lines);
-    fields(lines);
-    event_data(lines);
-    forms(lines);
-    runs(lines);
-    precedence(lines);
+    entries(lines, Table::First);
     lengths(lines);
+}
+
+/// All that is about entries, in logs of this table's version.
+pub fn entries(lines: &mut Vec<String>, table: Table) {
+    fields(lines, table);
+    event_data(lines, table);
+    forms(lines, table);
+    runs(lines, table);
+    precedence(lines, table);
 }
 
 /// Key number 7 and 8, identities of 0, 1, 8 and 9 octets; 4 before 8.
@@ -62,8 +69,8 @@ fn versions(lines: &mut Vec<String>) {
 const JOIN_IN_U0: [u32; 7] = [0, 3, 3, 0, 0, 0, 0];
 
 /// A log of one entry with these numbers and these octets behind the event.
-fn log(numbers: [u32; 7], data: &[u8], reply: usize) -> Vec<u8> {
-    let mut log = vec![1];
+fn log(table: Table, numbers: [u32; 7], data: &[u8], reply: usize) -> Vec<u8> {
+    let mut log = bytes(table, &[]);
     for (place, number) in numbers.iter().enumerate() {
         number::push(&mut log, *number);
         if place == 1 {
@@ -75,7 +82,7 @@ fn log(numbers: [u32; 7], data: &[u8], reply: usize) -> Vec<u8> {
 }
 
 /// Each number at its limit, over it, and as great as numbers are.
-fn fields(lines: &mut Vec<String>) {
+fn fields(lines: &mut Vec<String>, table: Table) {
     let greatest = [86_400_000, 18, 3, 7, 15, 63, 255];
     for (place, limit) in greatest.into_iter().enumerate() {
         for number in [
@@ -93,39 +100,42 @@ fn fields(lines: &mut Vec<String>) {
             numbers[place] = number;
             // As many reply octets as are claimed, where so many are readable.
             let reply = if place == 6 { number.min(300) } else { 0 };
-            push(lines, &log(numbers, &[], reply as usize));
+            push(lines, &log(table, numbers, &[], reply as usize));
         }
     }
 }
 
 /// Each event with no data, with a call's and with a message's; values and modes.
-fn event_data(lines: &mut Vec<String>) {
+fn event_data(lines: &mut Vec<String>, table: Table) {
     for event in 0..=20 {
         let mut numbers = JOIN_IN_U0;
         numbers[1] = event;
-        push(lines, &log(numbers, &[], 0));
-        push(lines, &log(numbers, &[0x05, 0x0A, 0x0B, 0x0C, 0x0D], 0));
-        push(lines, &log(numbers, &[0x00, 0x01, 0xD1], 0));
+        push(lines, &log(table, numbers, &[], 0));
+        push(
+            lines,
+            &log(table, numbers, &[0x05, 0x0A, 0x0B, 0x0C, 0x0D], 0),
+        );
+        push(lines, &log(table, numbers, &[0x00, 0x01, 0xD1], 0));
     }
     for event in [1, 2, 10] {
         for value in (0..=8).chain([127]) {
             push(
                 lines,
-                &log([0, event, 3, 0, 0, 0, 0], &[value, 0, 0, 0, 1], 0),
+                &log(table, [0, event, 3, 0, 0, 0, 0], &[value, 0, 0, 0, 1], 0),
             );
         }
     }
     for mode in (0..=3).chain([127]) {
         push(
             lines,
-            &log([0, 18, 1, 0, 0, 0, 0], &[mode, 0x02, 0x81, 0x39], 0),
+            &log(table, [0, 18, 1, 0, 0, 0, 0], &[mode, 0x02, 0x81, 0x39], 0),
         );
     }
 }
 
 /// Numbers that are longer than they need, or too great, in every place.
-fn forms(lines: &mut Vec<String>) {
-    let good = log(JOIN_IN_U0, &[], 0);
+fn forms(lines: &mut Vec<String>, table: Table) {
+    let good = log(table, JOIN_IN_U0, &[], 0);
     let odd: [&[u8]; 10] = [
         &[0x80, 0x00],
         &[0x83, 0x00],
@@ -153,41 +163,45 @@ fn forms(lines: &mut Vec<String>) {
         &[0x81, 0xB8, 0x99, 0x29],
         &[0xAC, 0x82, 0x00],
     ] {
-        push(lines, &[&[0x01][..], delta, &good[2..]].concat());
+        push(lines, &[&good[..1], delta, &good[2..]].concat());
     }
 }
 
 /// Messages and replies of 0, 251, 252 and 255, 256 octets, exact, cut by one
 /// and with one more.
-fn runs(lines: &mut Vec<String>) {
+fn runs(lines: &mut Vec<String>, table: Table) {
     for length in [0, 1, 2, 127, 128, 200, 250, 251, 252, 300] {
         let mut data = vec![0x01];
         number::push(&mut data, length);
         data.extend(vec![0x81; length as usize]);
-        let whole = log([5, 18, 1, 0, 0, 0, 0], &data, 0);
+        let whole = log(table, [5, 18, 1, 0, 0, 0, 0], &data, 0);
         push(lines, &whole);
         push(lines, &whole[..whole.len() - 6]);
         push(lines, &[&whole[..], &[0x00]].concat());
     }
     for length in [1, 127, 128, 254, 255, 256] {
         for given in [length - 1, length, length + 1] {
-            push(lines, &log([0, 3, 3, 0, 0, 0, length], &[], given as usize));
+            push(
+                lines,
+                &log(table, [0, 3, 3, 0, 0, 0, length], &[], given as usize),
+            );
         }
     }
 }
 
 /// At one entry unreadable precedes unexplained; an unexplained entry hides
 /// what stands behind it.
-fn precedence(lines: &mut Vec<String>) {
-    let good = &log(JOIN_IN_U0, &[], 0)[1..];
-    let unexplained = &log([0, 3, 0, 0, 0, 0, 0], &[], 0)[1..];
-    let both = &log([0, 3, 0, 8, 0, 0, 0], &[], 0)[1..];
+fn precedence(lines: &mut Vec<String>, table: Table) {
+    let good = &log(table, JOIN_IN_U0, &[], 0)[1..];
+    let unexplained = &log(table, [0, 3, 0, 0, 0, 0, 0], &[], 0)[1..];
+    let both = &log(table, [0, 3, 0, 8, 0, 0, 0], &[], 0)[1..];
     let unreadable = &[0x80, 0x00][..];
     let sorts = [good, unexplained, both, unreadable, &good[..3], &[]];
+    let version = &bytes(table, &[])[..];
     for first in sorts {
         for second in sorts {
-            push(lines, &[&[0x01][..], first, second].concat());
-            push(lines, &[&[0x01][..], good, first, second].concat());
+            push(lines, &[version, first, second].concat());
+            push(lines, &[version, good, first, second].concat());
         }
     }
 }

@@ -1,8 +1,8 @@
 //! The fixed set for `judge`, third part: each timer one millisecond early, in
-//! time and late, and the one T_conn req of a whole log.
+//! time and late, and the one T_conn req of a whole log. Logs of version 1.
 
-use super::judge::{push, run, Line, CONNECT, GET_STATUS, REJECT, TERMINATION};
-use crate::generate::log::bytes;
+use super::judge::{push, true_log, Line, CONNECT, GET_STATUS, REJECT, TERMINATION};
+use crate::tables::Table;
 
 const NONE: &[u8] = &[];
 
@@ -16,7 +16,7 @@ pub fn all(lines: &mut Vec<String>) {
 }
 
 fn script(lines: &mut Vec<String>, parts: &[&[Line]]) {
-    push(lines, &bytes(&run(&parts.concat())));
+    push(lines, &true_log(Table::First, &parts.concat()));
 }
 
 /// Each timer's expiry and every other event about its length. Entries that are

@@ -10,7 +10,7 @@ const GOOD: [(&str, &str); 6] = [
     ),
     (
         "step",
-        "step 0 0 0 0 00000000 3 3359a2 29f1 255 2 5 0a0b0c0d 0 d139",
+        "step 0 0 0 0 00000000 0 3 3359a2 29f1 255 2 5 0a0b0c0d 0 d139",
     ),
     ("settings", "settings 636b736e3d330a"),
     ("judge", "judge 3 3359a2 29f1 01"),

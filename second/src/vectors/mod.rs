@@ -1,9 +1,11 @@
 //! The fixed sets of commands: both sides of every number in document 01, each
-//! row of its tables, each table of clause 8 of the standard, and its cases.
+//! row of its tables and of document 02's, each table of clause 8 of the
+//! standard, and its cases.
 
 pub mod judge;
 pub mod judge_limits;
 pub mod judge_times;
+pub mod judge_versions;
 pub mod malformed;
 pub mod messages;
 pub mod read;
@@ -14,6 +16,7 @@ pub mod step;
 pub mod step_limits;
 pub mod step_reasons;
 pub mod step_received;
+pub mod step_returns;
 pub mod write;
 
 use std::collections::HashSet;
@@ -41,12 +44,14 @@ pub fn lines(word: &str) -> Vec<String> {
             step_limits::all(&mut lines);
             step_received::all(&mut lines);
             step_reasons::all(&mut lines);
+            step_returns::all(&mut lines);
         }
         "settings" => settings::all(&mut lines),
         "judge" => {
             judge::all(&mut lines);
             judge_limits::all(&mut lines);
             judge_times::all(&mut lines);
+            judge_versions::all(&mut lines);
         }
         _ => record::all(&mut lines),
     }

@@ -35,8 +35,10 @@ fn room(lines: &mut Vec<String>) {
     for used in [0, 1, 20, 21, 255, 256, 65_536, 65_537, 4_294_967_295u32] {
         lines.push(format!("record {} {used} 0 {JOIN}", buffer(20)));
     }
-    // What is used is not looked at: a wrong version, and rubbish.
+    // What is used is not looked at: either version, a wrong one, and rubbish.
+    lines.push(format!("record 01ffffffffffffffffff 1 0 {JOIN}"));
     lines.push(format!("record 02ffffffffffffffffff 1 0 {JOIN}"));
+    lines.push(format!("record 03ffffffffffffffffff 1 0 {JOIN}"));
     lines.push(format!("record 808080ffffffffffffff 3 0 {JOIN}"));
 }
 

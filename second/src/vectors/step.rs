@@ -7,34 +7,34 @@ use crate::probe::tokens::hexadecimal;
 /// The identity settings used where they do not matter: key number, classmark, identity.
 pub const OWN: &str = "3 3359a2 29f1";
 
-/// Contexts `STATE PARAMS TIMERS TV REF` and the flag that messages need there.
-/// First each state's start row, with and without its optional timer; then what
-/// SET PARAMETER can make of it.
+/// Contexts `STATE PARAMS TIMERS TV REF FROM` and the flag that messages need there.
+/// First each state's start row, with and without its optional timer, and with
+/// each state that it remembers; then what SET PARAMETER can make of it.
 pub const CONTEXTS: [(&str, u8); 24] = [
-    ("0 0 0 0 00000000", 1),  // U0
-    ("1 8 8 5 0a0b0c0d", 1),  // U0.p
-    ("2 12 8 5 0a0b0c0d", 1), // U1 after IMMEDIATE SETUP
-    ("2 12 0 5 0a0b0c0d", 1), // U1 after SETUP
-    ("3 15 0 5 0a0b0c0d", 1), // U2
-    ("4 0 0 5 0a0b0c0d", 0),  // U3
-    ("5 0 2 5 0a0b0c0d", 0),  // U4
-    ("6 15 4 5 0a0b0c0d", 1), // U5
-    ("6 15 0 5 0a0b0c0d", 1), // U5 after TERMINATION REJECT
-    ("7 2 0 5 0a0b0c0d", 0),  // U6
-    ("7 2 1 5 0a0b0c0d", 0),  // U6 with no channel
-    ("1 12 8 5 0a0b0c0d", 1), // U0.p, COMM true
-    ("1 0 8 5 0a0b0c0d", 1),  // U0.p, ORIG false
-    ("2 4 8 5 0a0b0c0d", 1),  // U1, ORIG false
-    ("2 8 0 5 0a0b0c0d", 1),  // U1, COMM false
-    ("2 0 0 5 0a0b0c0d", 1),  // U1, both false
-    ("3 7 0 5 0a0b0c0d", 1),  // U2, ORIG false
-    ("3 11 0 5 0a0b0c0d", 1), // U2, COMM false
-    ("3 0 0 5 0a0b0c0d", 1),  // U2, all false
-    ("4 3 0 5 0a0b0c0d", 0),  // U3, both attached
-    ("5 1 2 5 0a0b0c0d", 0),  // U4, uplink attached
-    ("6 7 4 5 0a0b0c0d", 1),  // U5, ORIG false
-    ("6 8 0 5 0a0b0c0d", 1),  // U5, COMM false
-    ("7 1 1 5 0a0b0c0d", 0),  // U6, uplink instead of downlink
+    ("0 0 0 0 00000000 0", 1),  // U0
+    ("1 8 8 5 0a0b0c0d 0", 1),  // U0.p
+    ("2 12 8 5 0a0b0c0d 0", 1), // U1 after IMMEDIATE SETUP
+    ("2 12 0 5 0a0b0c0d 0", 1), // U1 after SETUP
+    ("3 15 0 5 0a0b0c0d 0", 1), // U2
+    ("4 0 0 5 0a0b0c0d 0", 0),  // U3
+    ("5 0 2 5 0a0b0c0d 0", 0),  // U4
+    ("6 15 4 5 0a0b0c0d 3", 1), // U5, asked from U2
+    ("6 15 4 5 0a0b0c0d 2", 1), // U5, asked from U1
+    ("7 2 0 5 0a0b0c0d 0", 0),  // U6
+    ("7 2 1 5 0a0b0c0d 0", 0),  // U6 with no channel
+    ("1 12 8 5 0a0b0c0d 0", 1), // U0.p, COMM true
+    ("1 0 8 5 0a0b0c0d 0", 1),  // U0.p, ORIG false
+    ("2 4 8 5 0a0b0c0d 0", 1),  // U1, ORIG false
+    ("2 8 0 5 0a0b0c0d 0", 1),  // U1, COMM false
+    ("2 0 0 5 0a0b0c0d 0", 1),  // U1, both false
+    ("3 7 0 5 0a0b0c0d 0", 1),  // U2, ORIG false
+    ("3 11 0 5 0a0b0c0d 0", 1), // U2, COMM false
+    ("3 0 0 5 0a0b0c0d 0", 1),  // U2, all false
+    ("4 3 0 5 0a0b0c0d 0", 0),  // U3, both attached
+    ("5 1 2 5 0a0b0c0d 0", 0),  // U4, uplink attached
+    ("6 7 4 5 0a0b0c0d 3", 1),  // U5, ORIG false
+    ("6 8 4 5 0a0b0c0d 2", 1),  // U5, COMM false
+    ("7 1 1 5 0a0b0c0d 0", 0),  // U6, uplink instead of downlink
 ];
 
 /// So many of them are start rows.
@@ -64,7 +64,7 @@ pub fn addressed(octets: &[u8], flag: u8, value: u8) -> Vec<u8> {
 
 /// The transaction value that a context of the table has.
 pub fn value_of(context: &str) -> u8 {
-    let value = context.split(' ').nth(3).expect("five tokens");
+    let value = context.split(' ').nth(3).expect("six tokens");
     value.parse().expect("a number")
 }
 
@@ -108,16 +108,19 @@ fn own_messages(lines: &mut Vec<String>) {
     for value in 0..=6 {
         for event in [1, 2, 10] {
             let carried = format!("{event} {value} f0f1f2f3 0 -");
-            lines.push(step("0 0 0 0 00000000", &carried));
+            lines.push(step("0 0 0 0 00000000 0", &carried));
         }
-        lines.push(step(&format!("1 8 8 {value} f0f1f2f3"), "6 0 00000000 0 -"));
         lines.push(step(
-            &format!("3 15 0 {value} f0f1f2f3"),
+            &format!("1 8 8 {value} f0f1f2f3 0"),
+            "6 0 00000000 0 -",
+        ));
+        lines.push(step(
+            &format!("3 15 0 {value} f0f1f2f3 0"),
             "4 0 00000000 0 -",
         ));
         let get_status = addressed(&[0, 0x39], 1, value);
         lines.push(received(
-            &format!("3 15 0 {value} f0f1f2f3"),
+            &format!("3 15 0 {value} f0f1f2f3 0"),
             0,
             &get_status,
         ));
@@ -126,7 +129,7 @@ fn own_messages(lines: &mut Vec<String>) {
         for (key_number, length) in [(number, 2), (3, usize::from(number) + 1)] {
             let identity = hexadecimal(&vec![0x20 + number; length]);
             lines.push(format!(
-                "step 0 0 0 0 00000000 {key_number} 0a0b0c {identity} 255 2 3 ffffffff 0 -"
+                "step 0 0 0 0 00000000 0 {key_number} 0a0b0c {identity} 255 2 3 ffffffff 0 -"
             ));
         }
     }

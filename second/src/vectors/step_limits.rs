@@ -3,7 +3,7 @@
 
 use super::step::{step, CONTEXTS, OWN};
 use crate::probe::tokens::hexadecimal;
-use crate::state::STATES;
+use crate::state::{State, STATES};
 
 pub fn all(lines: &mut Vec<String>) {
     fitness(lines);
@@ -14,36 +14,51 @@ pub fn all(lines: &mut Vec<String>) {
     order_of_tests(lines);
 }
 
+/// The timers that run in this state always, as a number.
+pub fn asked_timers(state: State) -> u8 {
+    match state {
+        State::U0p => 8,
+        State::U4 => 2,
+        State::U5 => 4,
+        _ => 0,
+    }
+}
+
+/// A transaction value and a reference that are fit in this state.
+pub fn value_and_reference(state: State) -> (u8, &'static str) {
+    match state {
+        State::U0 => (0, "00000000"),
+        _ => (5, "0a0b0c0d"),
+    }
+}
+
 /// In each state all parameters beside the timers that it asks for, and all
 /// timers beside its start row.
 fn fitness(lines: &mut Vec<String>) {
     for state in STATES {
         let number = state.number();
         let row = state.start_row().number();
-        let asked = match number {
-            1 => 8,
-            5 => 2,
-            _ => 0,
-        };
-        let (value, reference) = if number == 0 {
-            (0, "00000000")
-        } else {
-            (5, "0a0b0c0d")
-        };
+        let asked = asked_timers(state);
+        let from = if state == State::U5 { 3 } else { 0 };
+        let (value, reference) = value_and_reference(state);
         for four in 0..=15 {
             for (parameters, timers) in [(four, asked), (row, four)] {
-                let context = format!("{number} {parameters} {timers} {value} {reference}");
+                let context = format!("{number} {parameters} {timers} {value} {reference} {from}");
                 lines.push(step(&context, "9 0 00000000 0 -"));
             }
         }
         for value in [0, 1, 5, 6, 7, 8, 127, 128, 255] {
-            let context = format!("{number} {row} {asked} {value} {reference}");
+            let context = format!("{number} {row} {asked} {value} {reference} {from}");
             lines.push(step(&context, "5 0 00000000 0 -"));
         }
     }
     // Numbers that are no state, whatever stands beside them.
     for number in [8, 9, 15, 16, 100, 254, 255] {
-        for rest in ["0 0 0 00000000", "15 15 255 ffffffff", "12 8 5 0a0b0c0d"] {
+        for rest in [
+            "0 0 0 00000000 0",
+            "15 15 255 ffffffff 255",
+            "12 8 5 0a0b0c0d 2",
+        ] {
             lines.push(step(&format!("{number} {rest}"), "5 0 00000000 0 -"));
         }
     }
@@ -52,21 +67,21 @@ fn fitness(lines: &mut Vec<String>) {
 /// U0 that is not cleared, in one place at a time.
 fn cleared(lines: &mut Vec<String>) {
     for context in [
-        "0 0 0 0 00000000",
-        "0 8 0 0 00000000",
-        "0 4 0 0 00000000",
-        "0 2 0 0 00000000",
-        "0 1 0 0 00000000",
-        "0 0 8 0 00000000",
-        "0 0 4 0 00000000",
-        "0 0 2 0 00000000",
-        "0 0 1 0 00000000",
-        "0 0 0 1 00000000",
-        "0 0 0 6 00000000",
-        "0 0 0 0 01000000",
-        "0 0 0 0 00010000",
-        "0 0 0 0 00000100",
-        "0 0 0 0 00000001",
+        "0 0 0 0 00000000 0",
+        "0 8 0 0 00000000 0",
+        "0 4 0 0 00000000 0",
+        "0 2 0 0 00000000 0",
+        "0 1 0 0 00000000 0",
+        "0 0 8 0 00000000 0",
+        "0 0 4 0 00000000 0",
+        "0 0 2 0 00000000 0",
+        "0 0 1 0 00000000 0",
+        "0 0 0 1 00000000 0",
+        "0 0 0 6 00000000 0",
+        "0 0 0 0 01000000 0",
+        "0 0 0 0 00010000 0",
+        "0 0 0 0 00000100 0",
+        "0 0 0 0 00000001 0",
     ] {
         lines.push(step(context, "1 3 01020304 0 -"));
     }
@@ -81,7 +96,7 @@ fn own_settings(lines: &mut Vec<String>) {
         "18 0 00000000 1 d139",
     ];
     for event in events {
-        let context = "3 15 0 5 0a0b0c0d";
+        let context = "3 15 0 5 0a0b0c0d 0";
         for key_number in (0..=9).chain([15, 16, 128, 255]) {
             lines.push(format!(
                 "step {context} {key_number} 3359a2 29f1 255 {event}"
@@ -126,22 +141,22 @@ fn message_lengths(lines: &mut Vec<String>) {
     for length in [0, 1, 2, 3, 250, 251, 252, 253, 300, 507] {
         let octets = hexadecimal(&vec![0xD1; length]);
         lines.push(step(
-            "3 15 0 5 0a0b0c0d",
+            "3 15 0 5 0a0b0c0d 0",
             &format!("18 0 00000000 0 {octets}"),
         ));
         lines.push(step(
-            "0 0 0 0 00000000",
+            "0 0 0 0 00000000 0",
             &format!("18 0 00000000 0 {octets}"),
         ));
     }
     let long = hexadecimal(&[0xD1; 252]);
     for event in 0..=19 {
         lines.push(step(
-            "3 15 0 5 0a0b0c0d",
+            "3 15 0 5 0a0b0c0d 0",
             &format!("{event} 0 00000000 0 {long}"),
         ));
         lines.push(step(
-            "0 0 0 0 00000000",
+            "0 0 0 0 00000000 0",
             &format!("{event} 0 00000000 0 {long}"),
         ));
     }
@@ -158,7 +173,7 @@ fn order_of_tests(lines: &mut Vec<String>) {
         let own = if wrong(4) { "8 3359a2 -" } else { OWN };
         let octets = hexadecimal(&vec![0x51; length]);
         lines.push(format!(
-            "step 4 {parameters} 0 5 0a0b0c0d {own} {buffer_length} 18 0 00000000 {mode} {octets}"
+            "step 4 {parameters} 0 5 0a0b0c0d 0 {own} {buffer_length} 18 0 00000000 {mode} {octets}"
         ));
     }
 }

@@ -8,21 +8,21 @@ use super::step::{received, value_of};
 /// Each state, with COMM false and with COMM true where both are fit, and the
 /// flag that messages need there. Three calls have a value at an end of its range.
 const HEARING: [(&str, u8); 15] = [
-    ("0 0 0 0 00000000", 1),
-    ("1 8 8 5 0a0b0c0d", 1),  // U0.p
-    ("1 12 8 5 0a0b0c0d", 1), // COMM true
-    ("2 8 8 5 0a0b0c0d", 1),  // U1, COMM false
-    ("2 12 0 5 0a0b0c0d", 1),
-    ("3 11 0 5 0a0b0c0d", 1), // U2, COMM false
-    ("3 15 0 5 0a0b0c0d", 1),
-    ("3 7 0 0 0a0b0c0d", 1), // ORIG false, value 0
-    ("4 0 0 5 0a0b0c0d", 0), // U3
-    ("4 0 0 6 0a0b0c0d", 0), // value 6
-    ("5 0 2 5 0a0b0c0d", 0), // U4
-    ("6 8 4 5 0a0b0c0d", 1), // U5, COMM false
-    ("6 15 0 5 0a0b0c0d", 1),
-    ("7 2 0 5 0a0b0c0d", 0), // U6
-    ("7 2 1 0 0a0b0c0d", 0), // value 0
+    ("0 0 0 0 00000000 0", 1),
+    ("1 8 8 5 0a0b0c0d 0", 1),  // U0.p
+    ("1 12 8 5 0a0b0c0d 0", 1), // COMM true
+    ("2 8 8 5 0a0b0c0d 0", 1),  // U1, COMM false
+    ("2 12 0 5 0a0b0c0d 0", 1),
+    ("3 11 0 5 0a0b0c0d 0", 1), // U2, COMM false
+    ("3 15 0 5 0a0b0c0d 0", 1),
+    ("3 7 0 0 0a0b0c0d 0", 1), // ORIG false, value 0
+    ("4 0 0 5 0a0b0c0d 0", 0), // U3
+    ("4 0 0 6 0a0b0c0d 0", 0), // value 6
+    ("5 0 2 5 0a0b0c0d 0", 0), // U4
+    ("6 8 4 5 0a0b0c0d 3", 1), // U5, COMM false
+    ("6 15 4 5 0a0b0c0d 2", 1),
+    ("7 2 0 5 0a0b0c0d 0", 0), // U6
+    ("7 2 1 0 0a0b0c0d 0", 0), // value 0
 ];
 
 const GET_STATUS: u8 = 0x39;

@@ -5,11 +5,11 @@ use super::messages::{behind, EXAMPLES, TAILS};
 use super::step::{addressed, received, step, CONTEXTS, START_ROWS};
 use crate::probe::tokens::hexadecimal;
 
-const U1: &str = "2 12 8 5 0a0b0c0d";
-const U2: &str = "3 15 0 5 0a0b0c0d";
-const U2_SILENT: &str = "3 11 0 5 0a0b0c0d";
-const U3: &str = "4 0 0 5 0a0b0c0d";
-const U5: &str = "6 15 4 5 0a0b0c0d";
+const U1: &str = "2 12 8 5 0a0b0c0d 0";
+const U2: &str = "3 15 0 5 0a0b0c0d 0";
+const U2_SILENT: &str = "3 11 0 5 0a0b0c0d 0";
+const U3: &str = "4 0 0 5 0a0b0c0d 0";
+const U5: &str = "6 15 4 5 0a0b0c0d 3";
 
 pub fn all(lines: &mut Vec<String>) {
     rule_1(lines);
@@ -65,8 +65,8 @@ fn rule_3(lines: &mut Vec<String>) {
             continue;
         }
         let contexts = match name {
-            "connect" => [U1, "2 8 8 5 0a0b0c0d"],
-            "termination_reject" => [U5, "6 11 4 5 0a0b0c0d"],
+            "connect" => [U1, "2 8 8 5 0a0b0c0d 0"],
+            "termination_reject" => [U5, "6 11 4 5 0a0b0c0d 3"],
             _ => [U2, U2_SILENT],
         };
         for context in contexts {
@@ -118,11 +118,11 @@ fn rule_4(lines: &mut Vec<String>) {
 fn rule_5(lines: &mut Vec<String>) {
     for octet in (0..=16).chain([0x80, 0xF0, 0xFE, 0xFF]) {
         for context in [
-            "1 8 8 5 0a0b0c0d",
-            "1 12 8 5 0a0b0c0d",
+            "1 8 8 5 0a0b0c0d 0",
+            "1 12 8 5 0a0b0c0d 0",
             U1,
-            "2 12 0 5 0a0b0c0d",
-            "2 8 0 5 0a0b0c0d",
+            "2 12 0 5 0a0b0c0d 0",
+            "2 8 0 5 0a0b0c0d 0",
         ] {
             lines.push(received(
                 context,
@@ -132,7 +132,7 @@ fn rule_5(lines: &mut Vec<String>) {
         }
     }
     // The transaction value stays, the reference is the message's own.
-    lines.push(step("1 8 8 0 ffffffff", "18 6 0e0f1011 0 81330000000001"));
+    lines.push(step("1 8 8 0 ffffffff 0", "18 6 0e0f1011 0 81330000000001"));
 }
 
 /// Reports of each cause on messages of every length about 245: copied up to

@@ -19,14 +19,17 @@ afterwards-spec =
     (λ c κs. search needs)
     (λ c κs. search needs)
     (λ c κs. search needs)
+    (λ c κs. search needs)
     (λ c.
-    let stored = c .before in
+    let referred = c .before in
+    let stored = referred .before in
     let set = stored .before in
     let stopped = set .before in
     let entered = stopped .before in
     let test = entered .before .before .before .before in
     rw (
-      c .reference-after .ensures,
+      c .remembered-after .ensures,
+      referred .reference-after .ensures,
       stored .value-after .ensures,
       set .with-timer2 .ensures,
       stopped .with-timer .ensures,

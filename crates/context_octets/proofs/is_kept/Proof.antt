@@ -10,6 +10,7 @@ is-kept-spec =
     tie.close
     (tie.spec
     (λ c. search needs)
+    (λ c κs. search needs)
     (λ c. search needs)
     (λ c. search needs)
     (λ c. search needs)
@@ -19,4 +20,6 @@ is-kept-spec =
     (λ c. search needs)
     (λ c. search needs)
     (λ c. search needs)
-    (λ c. search needs))
+    (λ c.
+    let noted = c .before .before .before .before .before .before .before .before .before in
+    rw (noted .is-remembered .ensures)))

@@ -7,8 +7,9 @@ use Rattle.context_octets.proofs.with_state.Tie as tie
 returns : tie.Need-returns
 unfolding withState
 returns c =
-    let timers = c .before .before .before .before .before in
-    rw (← timers .before .before .parameters-at .ensures, ← timers .timers-at .ensures)
+    let noted = c .before in
+    let timers = noted .before .before .before .before .before .before in
+    rw (← noted .remembered-at .ensures, ← timers .before .before .parameters-at .ensures, ← timers .timers-at .ensures)
 
 pub with-state-spec : {M : Type 1} → statement M
 unfolding withState
@@ -23,5 +24,7 @@ with-state-spec =
     (λ c. search needs)
     (λ c. search needs)
     (λ c. search needs)
+    (λ c. search needs)
+    (λ c κs. search needs)
     (λ c. search needs)
     returns)

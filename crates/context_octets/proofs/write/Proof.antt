@@ -15,4 +15,10 @@ write-spec =
     (λ c. omega (arith, state-below (c .before .before .before .before .args .context .state), c .state-number .ensures))
     (λ c κs. search needs)
     (λ c κs. search needs)
-    (λ c. search needs))
+    (λ c κs. search needs)
+    (λ c.
+    let noted = c .before in
+    let timers = noted .before in
+    let parameters = timers .before in
+    let state = parameters .before in
+    rw (noted .remembered-number .ensures, timers .four-number2 .ensures, parameters .four-number .ensures, state .state-number .ensures)))

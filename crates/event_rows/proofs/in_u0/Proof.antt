@@ -15,4 +15,4 @@ in-u0-spec =
     (λ c. rw (c .match .keys2))
     (λ c. rw (c .match .keys3))
     (λ c. rw (c .match .keys4))
-    (λ c. no-row (c .before .args .number) NoStep (eventsIn U0 (c .before .args .context) stepTable) (c .match .rest .0)))
+    (λ c. no-row (c .before .args .number) NoStep (eventsIn U0 (c .before .args .context) (stepTable (c .before .args .table))) (c .match .rest .0)))

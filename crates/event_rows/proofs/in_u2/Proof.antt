@@ -13,8 +13,8 @@ in-u2-spec =
     tie.close
     (tie.spec
     (λ c κs. search needs)
-    (λ c. rw (c .before .match .keys1) (c .where-true .ensures))
+    (λ c. rw (c .before .match .keys1) (c .terminated .ensures))
     (λ c. rw (c .match .keys2))
     (λ c. rw (c .match .keys3))
     (λ c. rw (c .match .keys4))
-    (λ c. no-row (c .before .before .args .number) NoStep (eventsIn U2 (c .before .before .args .context) stepTable) (c .match .rest)))
+    (λ c. no-row (c .before .before .args .number) NoStep (eventsIn U2 (c .before .before .args .context) (stepTable (c .before .before .args .table))) (c .match .rest)))

@@ -16,4 +16,4 @@ in-u3-spec =
     (λ c. rw (c .match .keys3))
     (λ c. rw (c .match .keys4))
     (λ c. rw (c .match .keys5))
-    (λ c. no-row (c .before .args .number) NoStep (eventsIn U3 (c .before .args .context) stepTable) (c .match .rest .0)))
+    (λ c. no-row (c .before .args .number) NoStep (eventsIn U3 (c .before .args .context) (stepTable (c .before .args .table))) (c .match .rest .0)))

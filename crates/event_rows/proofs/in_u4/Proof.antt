@@ -17,4 +17,4 @@ in-u4-spec =
     (λ c. rw (c .match .keys4))
     (λ c. rw (c .match .keys5))
     (λ c. rw (c .match .keys6))
-    (λ c. no-row (c .before .args .number) NoStep (eventsIn U4 (c .before .args .context) stepTable) (c .match .rest .0)))
+    (λ c. no-row (c .before .args .number) NoStep (eventsIn U4 (c .before .args .context) (stepTable (c .before .args .table))) (c .match .rest .0)))

@@ -17,4 +17,4 @@ in-u5-spec =
     (λ c. rw (c .match .keys2))
     (λ c. rw (c .match .keys3))
     (λ c. rw (c .match .keys4))
-    (λ c. no-row (c .before .before .args .number) NoStep (eventsIn U5 (c .before .before .args .context) stepTable) (c .match .rest)))
+    (λ c. no-row (c .before .before .args .number) NoStep (eventsIn U5 (c .before .before .args .context) (stepTable (c .before .before .args .table))) (c .match .rest)))

@@ -20,4 +20,4 @@ in-u6-spec =
     (λ c. rw (c .match .keys4))
     (λ c. rw (c .match .keys5))
     (λ c. rw (c .match .keys6))
-    (λ c. no-row (c .before .before .args .number) NoStep (eventsIn U6 (c .before .before .args .context) stepTable) (c .match .rest)))
+    (λ c. no-row (c .before .before .args .number) NoStep (eventsIn U6 (c .before .before .args .context) (stepTable (c .before .before .args .table))) (c .match .rest)))

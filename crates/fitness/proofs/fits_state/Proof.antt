@@ -1,12 +1,12 @@
 -- `fits_state` meets its contract, state by state.
 use borrow.Author.Needs.{needs}
 use Rattle.fitness.specs.Fitness.{consistentBy}
-use Rattle.fitness.specs.First.{firstFitness}
+use Rattle.fitness.specs.Tables.{fitnessOf}
 use Rattle.fitness.proofs.fits_state.Statement.{statement}
 use Rattle.fitness.proofs.fits_state.Tie as tie
 
 pub fits-state-spec : {M : Type 1} → statement M
-unfolding consistentBy firstFitness
+unfolding consistentBy fitnessOf
 fits-state-spec =
     tie.close
     (tie.spec

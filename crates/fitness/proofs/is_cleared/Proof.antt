@@ -1,5 +1,5 @@
 -- `is_cleared` meets its contract: each test is the definition's.
-use mathlib.Core.Path.{refl}
+use borrow.Author.Needs.{needs}
 use Rattle.fitness.specs.Fitness.{isCleared}
 use Rattle.fitness.proofs.is_cleared.Statement.{statement}
 use Rattle.fitness.proofs.is_cleared.Tie as tie
@@ -9,4 +9,5 @@ unfolding isCleared
 is-cleared-spec =
     tie.close
     (tie.spec
-    (λ c. refl))
+    (λ c κs. search needs)
+    (λ c. rw (c .before .is-something .ensures)))

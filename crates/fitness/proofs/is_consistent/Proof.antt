@@ -10,4 +10,4 @@ is-consistent-spec =
     tie.close
     (tie.spec
     (λ c κs. search needs)
-    (λ c. c .fits-state .ensures ∙ sym (by-two (c .before .args .state) (c .before .args .parameters))))
+    (λ c. c .fits-state .ensures ∙ sym (by-two _ (c .before .args .state) (c .before .args .parameters))))

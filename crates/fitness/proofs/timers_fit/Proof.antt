@@ -1,12 +1,12 @@
 -- `timers_fit` meets its contract, state by state.
 use borrow.Author.Needs.{needs}
 use Rattle.fitness.specs.Fitness.{timersFitBy}
-use Rattle.fitness.specs.First.{firstFitness}
+use Rattle.fitness.specs.Tables.{fitnessOf}
 use Rattle.fitness.proofs.timers_fit.Statement.{statement}
 use Rattle.fitness.proofs.timers_fit.Tie as tie
 
 pub timers-fit-spec : {M : Type 1} → statement M
-unfolding timersFitBy firstFitness
+unfolding timersFitBy fitnessOf
 timers-fit-spec =
     tie.close
     (tie.spec
@@ -17,6 +17,7 @@ timers-fit-spec =
     (λ c. search needs)
     (λ c. search needs)
     (λ c. search needs)
+    (λ c κs. search needs)
     (λ c. search needs)
     (λ c. rw (c .before .before .before .before .enum-told .given .1))
     (λ c. rw (c .before .before .before .before .enum-told2 .given .1))
@@ -24,5 +25,5 @@ timers-fit-spec =
     (λ c. rw (c .before .before .before .before .enum-told4 .given .1))
     (λ c. rw (c .before .before .before .before .enum-told5 .given .1))
     (λ c. rw (c .before .before .before .before .enum-told6 .given .1))
-    (λ c. rw (c .before .before .before .enum-told7 .given .1))
+    (λ c. rw (c .before .enum-told7 .given .1) (c .timers-fit-u5 .ensures))
     (λ c. rw (c .before .before .before .enum-told8 .given .1)))

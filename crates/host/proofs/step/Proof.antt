@@ -120,6 +120,7 @@ use Rattle.context.specs.declared.Context.{Context}
 use Rattle.reply.specs.declared.Own.{Own}
 use Rattle.radio.specs.declared.Happened.{Happened}
 use Rattle.radio.specs.declared.Stepped.{Stepped}
+use Rattle.version.specs.Version.{newest}
 use Rattle.radio.specs.Step.{Reaction, stepOf, shown}
 use Rattle.context.proofs.Context as T
 use Rattle.context.proofs.Context.Laws as T′
@@ -211,7 +212,7 @@ module _ {M : Type 1} (𝓤 : URA M) (H : Heap 𝓤) (A : Atoms 𝓤) (W : Given
 
   -- what the step is to come to
   abbrev comes : Reaction
-  comes = stepOf p (i .now) (length (w .now)) h g (s .now)
+  comes = stepOf newest p (i .now) (length (w .now)) h g (s .now)
 
   -- what `radio::step` says of its result and of the reply's last octets
   abbrev Said : Stepped → Lasts → Type 0

@@ -1,4 +1,5 @@
 -- `heard_in_u5` meets its contract: each arm is what the table says of its type, and the codes without an arm are no types.
+use borrow.Author.Needs.{needs}
 use mathlib.Core.Path.{refl}
 use Rattle.codes.specs.declared.state.State.the-variants.{U5}
 use Rattle.transitions.specs.Table.{stepTable, heardIn}
@@ -13,14 +14,15 @@ unfolding stepTable heardIn
 heard-in-u5-spec =
     tie.close
     (tie.spec
+    (λ c κs. search needs)
     (λ c. rw (c .match .keys1))
     (λ c. rw (c .match .keys2))
     (λ c. rw (c .match .keys3))
     (λ c. rw (c .match .keys4))
     (λ c. rw (c .match .keys5))
-    (λ c. rw (c .match .keys6))
+    (λ c. rw (c .before .match .keys6) (c .rejected .ensures))
     (λ c. rw (c .match .keys7))
     (λ c. rw (c .match .keys8))
     (λ c. rw (c .match .keys9))
     (λ c. rw (c .match .keys10))
-    (λ c. no-type U5 (c .before .args .context) (c .before .args .code) (no-row (c .before .args .code) false types (c .match .rest .0)) stepTable refl refl))
+    (λ c. no-type U5 (c .before .args .context) (c .before .args .code) (no-row (c .before .args .code) false types (c .match .rest .0)) (stepTable (c .before .args .table)) refl refl))

@@ -18,7 +18,7 @@ returns c =
     let wrote = c .before .before in
     let reacts = wrote .before .before .before in
     let start = reacts .before .before .before .before in
-    takes (start .args .own) (start .args .identity .now) (start .args .reply .now) (start .args .context) (start .args .happened) (start .args .octets .now) _ (reacts .react .ensures) _ _ (wrote .put .ensures)
+    takes (start .args .table) (start .args .own) (start .args .identity .now) (start .args .reply .now) (start .args .context) (start .args .happened) (start .args .octets .now) _ (reacts .react .ensures) _ _ (wrote .put .ensures)
 
 pub take-spec : {M : Type 1} → statement M
 take-spec = tie.close (tie.spec react-requires put-requires same-length returns)

@@ -28,7 +28,7 @@ ours c =
       transacted = rw (← c .before .before .expected-flag .ensures, ← c .before .transaction-is .ensures) (not-false _ (c .if4 .left));
     }
 
-typed : (c : tie.Else5) → let start = c .before .before .before .before .before .before .before .before .before .before .before .before .before in typeCause (start .args .context) (getD (start .args .octets .now) 1 0) ≡ 0
+typed : (c : tie.Else5) → let start = c .before .before .before .before .before .before .before .before .before .before .before .before .before in typeCause (start .args .table) (start .args .context) (getD (start .args .octets .now) 1 0) ≡ 0
 typed c = sym (c .before .type-cause .ensures) ∙ c .if5 .left
 
 state-number-requires : tie.Need-state-number-requires
@@ -80,7 +80,7 @@ type-cause-requires c κs = search needs
 returns-5 : tie.Need-returns-5
 returns-5 c =
     let fourth = c .before .before .before in
-    due-typed _ _ _ _ (ours fourth) _ (c .before .type-cause .ensures) (c .if5 .taken)
+    due-typed _ _ _ _ _ (ours fourth) _ (c .before .type-cause .ensures) (c .if5 .taken)
 
 read-requires : tie.Need-read-requires
 read-requires c κs = search needs
@@ -102,19 +102,19 @@ returns-6 c =
     let told = c .before .before in
     let reads = told .before .before in
     let fifth = reads .before in
-    due-read _ _ _ _ (ours (fifth .before .before .before)) (typed fifth) _ _ _ _ (sym (reads .read .ensures) ∙ told .message .given .1) (c .understand .ensures)
+    due-read _ _ _ _ _ (ours (fifth .before .before .before)) (typed fifth) _ _ _ _ (sym (reads .read .ensures) ∙ told .message .given .1) (c .understand .ensures)
 
 returns-7 : tie.Need-returns-7
 returns-7 c =
     let reads = c .before .before in
     let fifth = reads .before in
-    due-wrong _ _ _ _ (ours (fifth .before .before .before)) (typed fifth) _ _ (sym (reads .read .ensures) ∙ c .enum-told .given .1) refl
+    due-wrong _ _ _ _ _ (ours (fifth .before .before .before)) (typed fifth) _ _ (sym (reads .read .ensures) ∙ c .enum-told .given .1) refl
 
 returns-8 : tie.Need-returns-8
 returns-8 c =
     let reads = c .before .before in
     let fifth = reads .before in
-    due-long _ _ _ _ (ours (fifth .before .before .before)) (typed fifth) _ (sym (reads .read .ensures) ∙ c .enum-told2 .given .1) refl
+    due-long _ _ _ _ _ (ours (fifth .before .before .before)) (typed fifth) _ (sym (reads .read .ensures) ∙ c .enum-told2 .given .1) refl
 
 pub listen-spec : {M : Type 1} → statement M
 listen-spec =

@@ -5,10 +5,10 @@ use Rattle.timeline.proofs.survey.survey_log.Statement.{statement}
 use Rattle.timeline.proofs.survey.survey_log.Tie as tie
 
 abbrev Inv-loop : tie.InvT-loop
-Inv-loop log at found₀ turns₀ found turns = turns ≤ 65536
+Inv-loop table log at found₀ turns₀ found turns = turns ≤ 65536
 
 abbrev μ-loop : tie.MeasureT-loop
-μ-loop log at found₀ turns₀ found turns = turns
+μ-loop table log at found₀ turns₀ found turns = turns
 
 pub survey-log-spec : {M : Type 1} → statement M
 survey-log-spec =

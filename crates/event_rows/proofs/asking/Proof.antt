@@ -1,0 +1,13 @@
+-- `asking` meets its contract, table by table.
+use borrow.Author.Needs.{needs}
+use Rattle.event_rows.proofs.asking.Statement.{statement}
+use Rattle.event_rows.proofs.asking.Tie as tie
+
+pub asking-spec : {M : Type 1} → statement M
+asking-spec =
+    tie.close
+    (tie.spec
+    (λ c. search needs)
+    (λ c. search needs)
+    (λ c. rw (c .enum-told .given .1))
+    (λ c. rw (c .enum-told2 .given .1)))

@@ -1,0 +1,13 @@
+-- `term_fits` meets its contract, table by table.
+use borrow.Author.Needs.{needs}
+use Rattle.fitness.proofs.term_fits.Statement.{statement}
+use Rattle.fitness.proofs.term_fits.Tie as tie
+
+pub term-fits-spec : {M : Type 1} → statement M
+term-fits-spec =
+    tie.close
+    (tie.spec
+    (λ c. search needs)
+    (λ c. search needs)
+    (λ c. rw (c .enum-told .given .1))
+    (λ c. rw (c .enum-told2 .given .1)))

@@ -1,0 +1,48 @@
+-- Document 01, "The context": what each step table says of fitness, as data.
+use mathlib.Core.List.{List, [], _∷_}
+use mathlib.Core.Bool.{Bool}
+use Rattle.codes.specs.declared.state.State.{State}
+use Rattle.codes.specs.declared.state.State.the-variants.{U0, U0p, U1, U3, U4, U5, U6}
+use Rattle.codes.specs.declared.attributes.Parameters.{Parameters}
+use Rattle.timer.specs.declared.Timer.the-variants.{MmEst, Term, ConnReq, NoChannel}
+use Rattle.timer.specs.declared.Timers.{Timers}
+use Rattle.context.specs.declared.Context.{Context}
+use Rattle.version.specs.declared.Table.{Table}
+use Rattle.version.specs.declared.Table.the-variants.{First, Second}
+use Rattle.fitness.specs.Fitness.{Fitness, Runs, always, optionally, ORIG, COMM, consistentBy, timersFitBy, fitBy}
+
+-- What differs: in the first table T_term runs in U5 optionally, and nothing is remembered anywhere. From the second on, "T_term now always runs in U5", and
+-- the context remembers where the termination was asked from in U5, and "nothing is remembered outside U5".
+abbrev pub termRuns : Table → Runs
+termRuns First = optionally
+termRuns Second = always
+
+abbrev pub rememberingStates : Table → List State
+rememberingStates First = []
+rememberingStates Second = U5 ∷ []
+
+-- The table of timers, its last column; and 6.1.2.1.11.
+unfoldable pub fitnessOf : Table → Fitness
+fitnessOf table = record {
+  timers =
+      (MmEst, (U0p, always) ∷ (U1, optionally) ∷ []) ∷
+      (Term, (U5, termRuns table) ∷ []) ∷
+      (ConnReq, (U4, always) ∷ []) ∷
+      (NoChannel, (U6, optionally) ∷ []) ∷
+      [];
+  wrong =
+      (ORIG, U3 ∷ U4 ∷ U6 ∷ []) ∷
+      (COMM, U0 ∷ U3 ∷ U4 ∷ U6 ∷ []) ∷
+      [];
+  remembering = rememberingStates table;
+}
+
+-- Consistent and fit, by a table.
+abbrev pub consistent : Table → State → Parameters → Bool
+consistent table s p = consistentBy (fitnessOf table) s p
+
+abbrev pub timersFit : Table → State → Timers → Bool
+timersFit table s t = timersFitBy (fitnessOf table) s t
+
+abbrev pub fitOf : Table → Context → Bool
+fitOf table x = fitBy (fitnessOf table) x

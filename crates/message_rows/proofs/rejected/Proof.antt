@@ -1,0 +1,16 @@
+-- `rejected` meets its contract, table by table.
+use borrow.Author.Needs.{needs}
+use Rattle.transitions.specs.Table.{stepTable, heardIn}
+use Rattle.message_rows.proofs.rejected.Statement.{statement}
+use Rattle.message_rows.proofs.rejected.Tie as tie
+
+pub rejected-spec : {M : Type 1} → statement M
+unfolding stepTable heardIn
+rejected-spec =
+    tie.close
+    (tie.spec
+    (λ c. search needs)
+    (λ c. search needs)
+    (λ c κs. search needs)
+    (λ c. rw (c .enum-told .given .1))
+    (λ c. rw (c .before .enum-told2 .given .1) (c .returned .ensures)))

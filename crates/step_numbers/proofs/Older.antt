@@ -1,0 +1,39 @@
+-- Contexts that a host kept from before octet 8 had its use: it is 0 in them, nothing is remembered. Outside U5 they are fit by the second table exactly if they were by the first.
+use mathlib.Core.Path.{_≡_, refl, sym}
+use mathlib.Core.Bool.{true, false}
+use Rattle.octets.proofs.Choice.{never}
+use Rattle.codes.specs.declared.state.State.{State}
+use Rattle.codes.specs.declared.state.State.the-variants.{U0, U0p, U1, U2, U3, U4, U5, U6}
+use Rattle.timer.specs.declared.Timers.{Timers}
+use Rattle.version.specs.declared.Table.the-variants.{First, Second}
+use Rattle.context.specs.declared.Context.{Context}
+use Rattle.context.specs.declared.Remembered.{Remembered}
+use Rattle.context.specs.States.{same}
+use Rattle.fitness.specs.Fitness.{consistentBy, timersFitBy, rememberedFitBy, fitBy}
+use Rattle.fitness.specs.Tables.{fitnessOf, fitOf}
+
+timers-alike : (s : State) (t : Timers) → same s U5 ≡ false → timersFitBy (fitnessOf Second) s t ≡ timersFitBy (fitnessOf First) s t
+unfolding timersFitBy fitnessOf
+timers-alike U0 t e = refl
+timers-alike U0p t e = refl
+timers-alike U1 t e = refl
+timers-alike U2 t e = refl
+timers-alike U3 t e = refl
+timers-alike U4 t e = refl
+timers-alike U5 t e = never (sym e)
+timers-alike U6 t e = refl
+
+remembered-alike : (s : State) (r : Remembered) → same s U5 ≡ false → rememberedFitBy (fitnessOf Second) s r ≡ rememberedFitBy (fitnessOf First) s r
+unfolding rememberedFitBy fitnessOf
+remembered-alike U0 r e = refl
+remembered-alike U0p r e = refl
+remembered-alike U1 r e = refl
+remembered-alike U2 r e = refl
+remembered-alike U3 r e = refl
+remembered-alike U4 r e = refl
+remembered-alike U5 r e = never (sym e)
+remembered-alike U6 r e = refl
+
+pub older-fit : (x : Context) → same (x .state) U5 ≡ false → fitOf Second x ≡ fitOf First x
+unfolding fitBy consistentBy fitnessOf
+older-fit x e = rw (timers-alike (x .state) (x .timers) e, remembered-alike (x .state) (x .remembered) e)

@@ -1,0 +1,57 @@
+//! The step tables that a call can follow, and all in which they differ but
+//! their rows and timers, which stand in `step::table` and `timer`. A log is
+//! judged by the table of its version (document 02, A2).
+
+use crate::state::State::{self, *};
+use Table::*;
+
+#[derive(Clone, Copy, PartialEq, Eq, Debug)]
+pub enum Table {
+    /// Document 01: a rejected termination stays in U5, without a timer.
+    First,
+    /// A2: it leads back to the state that it was asked from.
+    Second,
+}
+
+/// Every table, in the order of their versions.
+pub const TABLES: [Table; 2] = [First, Second];
+
+impl Table {
+    /// What the step and the recorder follow; older tables live in the judge alone.
+    pub const NEWEST: Table = Second;
+
+    /// The number that begins a log of this table.
+    pub fn version(self) -> u32 {
+        match self {
+            First => 1,
+            Second => 2,
+        }
+    }
+
+    /// None for a number that is no version.
+    pub fn of_version(version: u32) -> Option<Table> {
+        TABLES.into_iter().find(|table| table.version() == version)
+    }
+
+    /// The states of which one is remembered in U5; none where nothing is.
+    pub fn asked_from(self) -> &'static [State] {
+        match self {
+            First => &[],
+            Second => &[U1, U2],
+        }
+    }
+
+    /// The greatest state number that an entry of a log may claim.
+    pub fn greatest_state(self) -> u32 {
+        match self {
+            First | Second => 7,
+        }
+    }
+
+    /// The greatest sum of actions that an entry of a log may claim.
+    pub fn greatest_actions(self) -> u32 {
+        match self {
+            First | Second => 63,
+        }
+    }
+}
