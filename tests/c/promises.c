@@ -1,4 +1,5 @@
-/* promises: what the line protocol can't show of the C library: octets that are no context, the reasons of a settings file, a call that is recorded and judged.
+/* promises: what the line protocol can't show of the C library: octets that are no context, contexts that an older host kept, the octets and the faults of a
+ * settings file, calls that are recorded and judged.
  * The expected values are worked out by hand from documents 01 and 02. Status 1, and a line on standard error for each, where one is not as promised. */
 #include "heidezirkel.h"
 #include "lent.h"
@@ -12,8 +13,8 @@
         promise(held, #condition); \
     } while (0)
 
-/* cksn=3, classmark=3319a2, identity=f423a1b2 */
-static const uint8_t settings[13] = {3, 0x33, 0x19, 0xa2, 4, 0xf4, 0x23, 0xa1, 0xb2};
+/* cksn=3, classmark=3319a2, identity=f423a1b2, conn_req_ms=12000, present_ms=60000 */
+static const uint8_t settings[21] = {3, 0x33, 0x19, 0xa2, 4, 0xf4, 0x23, 0xa1, 0xb2, 0, 0, 0, 0, 0xe0, 0x2e, 0, 0, 0x60, 0xea, 0, 0};
 static const uint8_t nothing[1];
 
 static void check_clear(void) {
@@ -44,7 +45,7 @@ static uint32_t answer_to(const uint8_t octets[16], size_t room) {
 /* U6 with D-ATT and T_no channel is fit; with any one octet beyond what its field holds it is no context. */
 static void check_contexts(void) {
     static const uint8_t fit[16] = {HEIDEZIRKEL_U6, HEIDEZIRKEL_D_ATT, HEIDEZIRKEL_T_NO_CHANNEL, 6, 1, 2, 3, 4};
-    static const unsigned least[16] = {8, 16, 16, 7, 256, 256, 256, 256, 1, 1, 1, 1, 1, 1, 1, 1};
+    static const unsigned least[16] = {8, 16, 32, 7, 256, 256, 256, 256, 1, 1, 1, 1, 1, 1, 1, 1};
     uint8_t other[16];
     EXPECT(answer_to(fit, 255) == HEIDEZIRKEL_TAKEN);
     for (size_t place = 0; place < 16; place++)
@@ -56,6 +57,31 @@ static void check_contexts(void) {
     /* 7 comes before 5. */
     EXPECT(answer_to(other, 0) == HEIDEZIRKEL_NO_CONTEXT);
     EXPECT(answer_to(fit, 254) == HEIDEZIRKEL_SHORT_BUFFER);
+}
+
+/* In each state octet 2 is fit where it says the timers that run there, and no other; from 32 on it says none. */
+static void check_timers(void) {
+    static const struct {
+        uint8_t context[16];
+        uint8_t fit[2];
+    } states[] = {
+        {{HEIDEZIRKEL_U0}, {0, 0}},
+        {{HEIDEZIRKEL_U0_P, 8, 0, 6}, {HEIDEZIRKEL_T_MM_EST, HEIDEZIRKEL_T_MM_EST}},
+        {{HEIDEZIRKEL_U1, 12, 0, 6}, {0, HEIDEZIRKEL_T_MM_EST}},
+        {{HEIDEZIRKEL_U2, 15, 0, 6}, {0, 0}},
+        {{HEIDEZIRKEL_U3, 0, 0, 6}, {HEIDEZIRKEL_T_PRES, HEIDEZIRKEL_T_PRES}},
+        {{HEIDEZIRKEL_U4, 0, 0, 6}, {HEIDEZIRKEL_T_CONN_REQ, HEIDEZIRKEL_T_CONN_REQ}},
+        {{HEIDEZIRKEL_U5, 15, 0, 6, [8] = HEIDEZIRKEL_U2}, {HEIDEZIRKEL_T_TERM, HEIDEZIRKEL_T_TERM}},
+        {{HEIDEZIRKEL_U6, 2, 0, 6}, {0, HEIDEZIRKEL_T_NO_CHANNEL}},
+    };
+    for (size_t i = 0; i < sizeof states / sizeof states[0]; i++)
+        for (unsigned timers = 0; timers < 256; timers++) {
+            bool fit = timers == states[i].fit[0] || timers == states[i].fit[1];
+            uint8_t octets[16];
+            memcpy(octets, states[i].context, 16);
+            octets[2] = (uint8_t)timers;
+            EXPECT((answer_to(octets, 255) != HEIDEZIRKEL_NO_CONTEXT) == fit);
+        }
 }
 
 /* U5 with T_term is fit where octet 8 is 2 (U1) or 3 (U2); "channel available" has no step there. */
@@ -77,13 +103,13 @@ static void check_remembered(void) {
 }
 
 static void check_reason(const char *text, size_t line, uint32_t fault) {
-    struct lent octets = lend(13);
+    struct lent octets = lend(21);
     struct lent file = lend_octets((const uint8_t *)text, strlen(text));
     struct heidezirkel_settings read = heidezirkel_read_settings(file.octets, file.length, octets.octets);
     char what[80];
     snprintf(what, sizeof what, "line %zu, fault %u for the file of line %zu, fault %u", read.line, read.fault, line, fault);
     promise(read.line == line && read.fault == fault, what);
-    EXPECT(read.answer == HEIDEZIRKEL_SETTINGS_REFUSED && read.joining_ms == 0);
+    EXPECT(read.answer == HEIDEZIRKEL_SETTINGS_REFUSED && read.joining_ms == 0 && read.invitation_ms == 0);
     EXPECT(kept(&octets, 0));
     refusals_seen++;
     give_back(&octets);
@@ -103,6 +129,31 @@ static void check_reasons(void) {
     check_reason("conn_req_ms=10000\ncksn=3\n", 3, HEIDEZIRKEL_LINE_MISSING_CLASSMARK);
     check_reason("classmark=3319a2\ncksn=3\n", 3, HEIDEZIRKEL_LINE_MISSING_IDENTITY);
     check_reason("classmark=3319a2\ncksn=3\nidentity=f4\n", 4, HEIDEZIRKEL_LINE_MISSING_JOINING);
+    check_reason("present_ms=1000\nclassmark=3319a2\ncksn=3\nidentity=f4\n", 5, HEIDEZIRKEL_LINE_MISSING_JOINING);
+    check_reason("cksn=3\npresent_ms=999\n", 2, HEIDEZIRKEL_LINE_BAD_INVITATION);
+    check_reason("present_ms=600001\n", 1, HEIDEZIRKEL_LINE_BAD_INVITATION);
+    check_reason("present_ms=01000\n", 1, HEIDEZIRKEL_LINE_BAD_INVITATION);
+    check_reason("present_ms=1000\npresent_ms=1000\n", 2, HEIDEZIRKEL_LINE_REPEATED_NAME);
+    /* What an older library took. */
+    check_reason("cksn=3\nclassmark=3319a2\nidentity=f423a1b2\nconn_req_ms=12000\n", 5, HEIDEZIRKEL_LINE_MISSING_INVITATION);
+}
+
+/* A file that is taken, and its 21 octets. */
+static void check_read(const char *text, uint32_t joining_ms, uint32_t invitation_ms, const uint8_t expected[21]) {
+    struct lent octets = lend(21);
+    struct heidezirkel_settings read = heidezirkel_read_settings((const uint8_t *)text, strlen(text), octets.octets);
+    EXPECT(read.answer == HEIDEZIRKEL_TAKEN && read.fault == 0 && read.line == 0);
+    EXPECT(read.joining_ms == joining_ms && read.invitation_ms == invitation_ms);
+    EXPECT(memcmp(octets.octets, expected, 21) == 0 && kept(&octets, 21));
+    give_back(&octets);
+}
+
+static void check_files(void) {
+    static const uint8_t least[21] = {0, 0, 0, 1, 1, 7, 0, 0, 0, 0, 0, 0, 0, 0x10, 0x27, 0, 0, 0xe8, 0x03, 0, 0};
+    static const uint8_t greatest[21] = {7, 0xff, 0xff, 0xff, 8, 1, 2, 3, 4, 5, 6, 7, 8, 0x30, 0x75, 0, 0, 0xc0, 0x27, 0x09, 0};
+    check_read("cksn=3\nclassmark=3319a2\nidentity=f423a1b2\nconn_req_ms=12000\npresent_ms=60000\n", 12000, 60000, settings);
+    check_read("present_ms=1000\nconn_req_ms=10000\nidentity=07\nclassmark=000001\ncksn=0\n", 10000, 1000, least);
+    check_read("cksn=7\nclassmark=FFffFF\npresent_ms=600000\nidentity=0102030405060708\nconn_req_ms=30000\n", 30000, 600000, greatest);
 }
 
 /* A host's log as it grows. */
@@ -123,11 +174,13 @@ static void happen(struct recording *now, uint32_t delta, struct heidezirkel_eve
     EXPECT(kept(&now->log, now->used));
 }
 
-/* Case c6 of document 01 in version 2, then a GET STATUS that is ignored, TERMINATION, and a call of the radio's own, whose reply is logged. */
+/* Case c6 of document 01 in version 3, joined 2,500 ms after it was notified; then a GET STATUS that is ignored, TERMINATION, and a call of the radio's own,
+ * whose reply is logged. */
+enum { JOIN_ACTIONS = 19 }; /* the place of the join's actions */
 static const uint8_t worked_out[] = {
-    0x02,
+    0x03,
     0x00, 0x0a, 0x01, 1, 2, 3, 4, 0x00, 0x04, 0x00, 0x01, 0x00,
-    0x00, 0x03, 0x00, 0x05, 0x00, 0x04, 0x00,
+    0xc4, 0x13, 0x03, 0x00, 0x05, 0x00, 0x04, 0x00,
     0xa0, 0x9c, 0x01, 0x0b, 0x00, 0x07, 0x02, 0x01, 0x00,
     0x05, 0x12, 0x01, 0x02, 0x11, 0x39, 0x01, 0x07, 0x02, 0x00, 0x00,
     0x00, 0x12, 0x00, 0x04, 0x11, 0x34, 0x01, 0x90, 0x00, 0x00, 0x00, 0x11, 0x00,
@@ -141,7 +194,7 @@ static void play(struct recording *now) {
     struct heidezirkel_event notified = {.number = HEIDEZIRKEL_EVENT_NOTIFIED, .value = 1, .reference = {1, 2, 3, 4}};
     struct heidezirkel_event immediate = {.number = HEIDEZIRKEL_EVENT_IMMEDIATE_SET_UP, .value = 2, .reference = {5, 6, 7, 8}};
     happen(now, 0, notified, nothing, 0);
-    happen(now, 0, (struct heidezirkel_event){.number = HEIDEZIRKEL_EVENT_JOIN}, nothing, 0);
+    happen(now, 2500, (struct heidezirkel_event){.number = HEIDEZIRKEL_EVENT_JOIN}, nothing, 0);
     happen(now, 20000, (struct heidezirkel_event){.number = HEIDEZIRKEL_EVENT_GROUP_RECEIVE}, nothing, 0);
     happen(now, 5, (struct heidezirkel_event){.number = HEIDEZIRKEL_EVENT_RECEIVED, .mode = 1}, get_status, 2);
     happen(now, 0, (struct heidezirkel_event){.number = HEIDEZIRKEL_EVENT_RECEIVED}, termination, 4);
@@ -178,6 +231,66 @@ static void check_return(void) {
     leads(from_u1, HEIDEZIRKEL_EVENT_TERM_EXPIRED, nothing, 0, cleared, HEIDEZIRKEL_DO_INFORM + HEIDEZIRKEL_DO_ABORT);
 }
 
+/* An invitation: its timer runs from the notification on, and until the radio is in another state. */
+static void check_invitation(void) {
+    static const uint8_t cleared[16];
+    static const uint8_t notified[16] = {HEIDEZIRKEL_U3, 0, HEIDEZIRKEL_T_PRES};
+    static const uint8_t invited[16] = {HEIDEZIRKEL_U3, 0, HEIDEZIRKEL_T_PRES, 2, 5, 6, 7, 8};
+    static const uint8_t attached[16] = {HEIDEZIRKEL_U3, HEIDEZIRKEL_D_ATT, HEIDEZIRKEL_T_PRES, 2, 5, 6, 7, 8};
+    static const uint8_t joining[16] = {HEIDEZIRKEL_U4, 0, HEIDEZIRKEL_T_CONN_REQ, 2, 5, 6, 7, 8};
+    static const uint8_t termination[] = {0x21, 0x34, 0x01, 0x90};
+    static const uint8_t set_parameter[] = {0x21, 0x3a, 0x08};
+    leads(cleared, HEIDEZIRKEL_EVENT_NOTIFIED, nothing, 0, notified, HEIDEZIRKEL_DO_INFORM);
+    leads(invited, HEIDEZIRKEL_EVENT_JOIN, nothing, 0, joining, HEIDEZIRKEL_DO_REQUEST_GROUP_RECEIVE);
+    leads(invited, HEIDEZIRKEL_EVENT_PRES_EXPIRED, nothing, 0, cleared, 0);
+    leads(invited, HEIDEZIRKEL_EVENT_RELEASE, nothing, 0, cleared, HEIDEZIRKEL_DO_RELEASE);
+    leads(invited, HEIDEZIRKEL_EVENT_RADIO_LINK_FAILURE, nothing, 0, cleared, HEIDEZIRKEL_DO_INFORM + HEIDEZIRKEL_DO_ABORT);
+    leads(invited, HEIDEZIRKEL_EVENT_ABORT_OR_RELEASE, nothing, 0, cleared, HEIDEZIRKEL_DO_INFORM + HEIDEZIRKEL_DO_ABORT);
+    leads(invited, HEIDEZIRKEL_EVENT_RECEIVED, termination, sizeof termination, cleared, HEIDEZIRKEL_DO_INFORM + HEIDEZIRKEL_DO_RELEASE);
+    leads(invited, HEIDEZIRKEL_EVENT_RECEIVED, set_parameter, sizeof set_parameter, attached, 0);
+}
+
+/* The answer to an event that carries nothing; refused, it changes no octet. */
+static uint32_t answer_in(const uint8_t octets[16], uint32_t event) {
+    struct lent context = lend_octets(octets, 16);
+    uint8_t reply[255];
+    struct heidezirkel_step step =
+        heidezirkel_step(context.octets, settings, (struct heidezirkel_event){.number = event}, nothing, 0, reply, sizeof reply);
+    EXPECT(step.answer == HEIDEZIRKEL_TAKEN || kept(&context, 0));
+    refusals_seen += step.answer != HEIDEZIRKEL_TAKEN;
+    give_back(&context);
+    return step.answer;
+}
+
+/* The expiry of T_pres has a step in U3 alone; there is no event 0 and none from 20 on. */
+static void check_expiry(void) {
+    static const uint8_t fit[8][16] = {
+        {HEIDEZIRKEL_U0}, {HEIDEZIRKEL_U0_P, 8, HEIDEZIRKEL_T_MM_EST}, {HEIDEZIRKEL_U1, 12, HEIDEZIRKEL_T_MM_EST}, {HEIDEZIRKEL_U2, 15},
+        {HEIDEZIRKEL_U3, 0, HEIDEZIRKEL_T_PRES}, {HEIDEZIRKEL_U4, 0, HEIDEZIRKEL_T_CONN_REQ},
+        {HEIDEZIRKEL_U5, 15, HEIDEZIRKEL_T_TERM, [8] = HEIDEZIRKEL_U1}, {HEIDEZIRKEL_U6, 2, HEIDEZIRKEL_T_NO_CHANNEL},
+    };
+    for (size_t state = 0; state < 8; state++) {
+        uint32_t expected = state == HEIDEZIRKEL_U3 ? HEIDEZIRKEL_TAKEN : HEIDEZIRKEL_NO_STEP;
+        EXPECT(answer_in(fit[state], HEIDEZIRKEL_EVENT_PRES_EXPIRED) == expected);
+        EXPECT(answer_in(fit[state], 0) == HEIDEZIRKEL_OUT_OF_RANGE);
+        EXPECT(answer_in(fit[state], 20) == HEIDEZIRKEL_OUT_OF_RANGE);
+        EXPECT(answer_in(fit[state], UINT32_MAX) == HEIDEZIRKEL_OUT_OF_RANGE);
+    }
+}
+
+/* A context that an older host kept in U3, where no timer ran: refused at every event. Cleared, or with T_pres, it goes on. */
+static void check_kept(void) {
+    static const uint8_t joining[16] = {HEIDEZIRKEL_U4, 0, HEIDEZIRKEL_T_CONN_REQ, 2, 5, 6, 7, 8};
+    uint8_t older[16] = {HEIDEZIRKEL_U3, 0, 0, 2, 5, 6, 7, 8};
+    for (uint32_t event = 0; event <= 20; event++)
+        EXPECT(answer_in(older, event) == HEIDEZIRKEL_NO_CONTEXT);
+    older[2] = HEIDEZIRKEL_T_PRES;
+    leads(older, HEIDEZIRKEL_EVENT_JOIN, nothing, 0, joining, HEIDEZIRKEL_DO_REQUEST_GROUP_RECEIVE);
+    older[2] = 0;
+    EXPECT(heidezirkel_clear(older) == HEIDEZIRKEL_TAKEN);
+    EXPECT(answer_in(older, HEIDEZIRKEL_EVENT_NOTIFIED) == HEIDEZIRKEL_TAKEN);
+}
+
 static void check_begin(struct recording *now) {
     struct lent none = lend(0);
     struct heidezirkel_used begun = heidezirkel_begin_log(none.octets, 0);
@@ -201,47 +314,121 @@ static void check_recorded(struct recording *now) {
 
 /* The recorder looks at the answer and actions of a step, at state and parameters of a context, and at the reply's own length. */
 static void check_looked_at(void) {
-    static const uint8_t expected[] = {0x02, 0x00, 0x03, 0x03, 0x00, 0x00, 0x00, 0x00};
+    static const uint8_t expected[] = {0x03, 0x00, 0x03, 0x03, 0x00, 0x00, 0x00, 0x00};
     static const uint8_t context[16] = {0, 0, 255, 255, 1, 2, 3, 4, 5, 6, 7, 8, 9, 10, 11, 12};
     struct heidezirkel_event join = {.number = HEIDEZIRKEL_EVENT_JOIN, .value = 255, .mode = 255, .reference = {1, 2, 3, 4}};
     struct heidezirkel_step step = {.answer = HEIDEZIRKEL_NO_STEP, .reason = 6, .reply_length = 7};
     struct lent log = lend(sizeof expected);
-    struct heidezirkel_used recorded = heidezirkel_record(log.octets, log.length, 0, 0, join, settings, 13, step, context, nothing, 0);
+    struct heidezirkel_used recorded = heidezirkel_record(log.octets, log.length, 0, 0, join, settings, 21, step, context, nothing, 0);
     EXPECT(recorded.answer == HEIDEZIRKEL_TAKEN && recorded.used == sizeof expected);
     EXPECT(memcmp(log.octets, expected, sizeof expected) == 0);
     give_back(&log);
 }
 
-static void check_judged(const struct recording *now) {
-    struct heidezirkel_judgement judged = heidezirkel_judge(settings, now->log.octets, now->used);
-    EXPECT(judged.answer == HEIDEZIRKEL_TAKEN && judged.entry == 6 && judged.least_ms == 20000 && judged.greatest_ms == 30000);
-    judged = heidezirkel_judge(settings, now->log.octets, now->used - 1);
-    EXPECT(judged.answer == HEIDEZIRKEL_UNREADABLE_LOG && judged.entry == 6);
-    now->log.octets[18] ^= 8; /* the join's actions */
-    judged = heidezirkel_judge(settings, now->log.octets, now->used);
-    EXPECT(judged.answer == HEIDEZIRKEL_UNEXPLAINED && judged.entry == 2);
-    now->log.octets[18] ^= 8;
-    /* No termination is rejected in it: version 1 has the same rows. There is no other version. */
-    for (unsigned version = 0; version < 256; version++) {
-        now->log.octets[0] = (uint8_t)version;
-        judged = heidezirkel_judge(settings, now->log.octets, now->used);
-        EXPECT(judged.answer == (version == 1 || version == 2 ? HEIDEZIRKEL_TAKEN : HEIDEZIRKEL_UNREADABLE_LOG));
-        EXPECT(judged.entry == (version == 1 || version == 2 ? 6 : 0));
-    }
-    now->log.octets[0] = 2;
+/* Accepted, with so many entries and these timers: least and greatest of the joining timer, then of the invitation timer. */
+static bool accepts(struct heidezirkel_judgement judged, size_t entries, uint32_t least, uint32_t greatest, uint32_t invitation_least,
+    uint32_t invitation_greatest) {
+    return judged.answer == HEIDEZIRKEL_TAKEN && judged.entry == entries && judged.least_ms == least && judged.greatest_ms == greatest
+        && judged.invitation_least_ms == invitation_least && judged.invitation_greatest_ms == invitation_greatest;
 }
 
-/* No settings: what a host has that began with zeros and did not look. And octets behind the identity, which have no effect. */
+/* Refused at an entry: no timer is told. */
+static bool refuses(struct heidezirkel_judgement judged, uint32_t answer, size_t entry) {
+    refusals_seen++;
+    return judged.answer == answer && judged.entry == entry && judged.least_ms == 0 && judged.greatest_ms == 0 && judged.invitation_least_ms == 0
+        && judged.invitation_greatest_ms == 0;
+}
+
+static void check_judged(const struct recording *now) {
+    EXPECT(accepts(heidezirkel_judge(settings, now->log.octets, now->used), 6, 20000, 30000, 2500, 600000));
+    EXPECT(refuses(heidezirkel_judge(settings, now->log.octets, now->used - 1), HEIDEZIRKEL_UNREADABLE_LOG, 6));
+    now->log.octets[JOIN_ACTIONS] ^= 8;
+    EXPECT(refuses(heidezirkel_judge(settings, now->log.octets, now->used), HEIDEZIRKEL_UNEXPLAINED, 2));
+    now->log.octets[JOIN_ACTIONS] ^= 8;
+    /* No termination is rejected in it, and no invitation runs out: versions 1 and 2 explain it too, and tell of no invitation timer. There is no other. */
+    for (unsigned version = 0; version < 256; version++) {
+        now->log.octets[0] = (uint8_t)version;
+        struct heidezirkel_judgement judged = heidezirkel_judge(settings, now->log.octets, now->used);
+        if (version == 1 || version == 2)
+            EXPECT(accepts(judged, 6, 20000, 30000, 0, 0));
+        else if (version == 3)
+            EXPECT(accepts(judged, 6, 20000, 30000, 2500, 600000));
+        else
+            EXPECT(refuses(judged, HEIDEZIRKEL_UNREADABLE_LOG, 0));
+    }
+    now->log.octets[0] = 3;
+}
+
+/* A log of a notification, and of one event a while after it. */
+static struct recording after_a_while(uint32_t delta, uint32_t event) {
+    struct recording made = {.log = lend(64)};
+    happen(&made, 5, (struct heidezirkel_event){.number = HEIDEZIRKEL_EVENT_NOTIFIED, .value = 1}, nothing, 0);
+    happen(&made, delta, (struct heidezirkel_event){.number = event}, nothing, 0);
+    return made;
+}
+
+/* An invitation that runs out after `delta` and one that is joined after it: the timers that explain each, and both in one log. */
+static void check_waiting(uint32_t delta) {
+    struct recording out = after_a_while(delta, HEIDEZIRKEL_EVENT_PRES_EXPIRED);
+    struct recording joined = after_a_while(delta, HEIDEZIRKEL_EVENT_JOIN);
+    struct heidezirkel_judgement judged = heidezirkel_judge(settings, out.log.octets, out.used);
+    if (delta >= 1000 && delta <= 600000)
+        EXPECT(accepts(judged, 2, 10000, 30000, delta, delta));
+    else
+        EXPECT(refuses(judged, HEIDEZIRKEL_UNEXPLAINED, 2));
+    judged = heidezirkel_judge(settings, joined.log.octets, joined.used);
+    if (delta <= 600000)
+        EXPECT(accepts(judged, 2, 10000, 30000, delta < 1000 ? 1000 : delta, 600000));
+    else
+        EXPECT(refuses(judged, HEIDEZIRKEL_UNEXPLAINED, 2));
+    /* Versions 1 and 2 have no such timer: any wait is explained, and there is no event 19. */
+    for (uint8_t version = 1; version <= 2; version++) {
+        out.log.octets[0] = joined.log.octets[0] = version;
+        EXPECT(refuses(heidezirkel_judge(settings, out.log.octets, out.used), HEIDEZIRKEL_UNREADABLE_LOG, 2));
+        EXPECT(accepts(heidezirkel_judge(settings, joined.log.octets, joined.used), 2, 10000, 30000, 0, 0));
+    }
+    give_back(&out.log);
+    give_back(&joined.log);
+}
+
+/* One log with an invitation that runs out after 12,000 ms, one that is joined after `waited`, and a joining timer that runs out after 11,000 ms: two timers of
+ * their own, and one invitation timer for both invitations. */
+static void check_both(uint32_t waited) {
+    struct recording made = after_a_while(12000, HEIDEZIRKEL_EVENT_PRES_EXPIRED);
+    happen(&made, 0, (struct heidezirkel_event){.number = HEIDEZIRKEL_EVENT_NOTIFIED, .value = 2}, nothing, 0);
+    happen(&made, waited, (struct heidezirkel_event){.number = HEIDEZIRKEL_EVENT_JOIN}, nothing, 0);
+    happen(&made, 11000, (struct heidezirkel_event){.number = HEIDEZIRKEL_EVENT_CONN_REQ_EXPIRED}, nothing, 0);
+    struct heidezirkel_judgement judged = heidezirkel_judge(settings, made.log.octets, made.used);
+    if (waited <= 12000)
+        EXPECT(accepts(judged, 5, 11000, 11000, 12000, 12000));
+    else
+        EXPECT(refuses(judged, HEIDEZIRKEL_UNEXPLAINED, 4));
+    give_back(&made.log);
+}
+
+static void check_invitations_judged(void) {
+    static const uint32_t waits[] = {0, 999, 1000, 1001, 45000, 599999, 600000, 600001, 86400000};
+    for (size_t i = 0; i < sizeof waits / sizeof waits[0]; i++)
+        check_waiting(waits[i]);
+    check_both(12000);
+    check_both(12001);
+}
+
+/* No settings: what a host has that began with zeros and did not look. And octets behind the identity, and the timers', which have no effect. */
 static void check_settings(void) {
-    static const uint8_t none[13];
-    uint8_t behind[13];
+    static const uint8_t none[21];
+    uint8_t behind[21];
     uint8_t context[16] = {0}, reply[255];
     struct heidezirkel_event event = {.number = HEIDEZIRKEL_EVENT_NOTIFIED};
     EXPECT(heidezirkel_step(context, none, event, nothing, 0, reply, 255).answer == HEIDEZIRKEL_OUT_OF_RANGE);
     EXPECT(heidezirkel_judge(none, worked_out, sizeof worked_out).answer == HEIDEZIRKEL_OUT_OF_RANGE);
-    memcpy(behind, settings, 13);
-    behind[9] = 9;
-    EXPECT(heidezirkel_judge(behind, worked_out, sizeof worked_out).answer == HEIDEZIRKEL_TAKEN);
+    memcpy(behind, settings, 21);
+    for (size_t place = 9; place < 21; place++) {
+        behind[place] ^= 0xff;
+        EXPECT(accepts(heidezirkel_judge(behind, worked_out, sizeof worked_out), 6, 20000, 30000, 2500, 600000));
+        EXPECT(heidezirkel_clear(context) == HEIDEZIRKEL_TAKEN);
+        EXPECT(heidezirkel_step(context, behind, event, nothing, 0, reply, 255).answer == HEIDEZIRKEL_TAKEN);
+    }
 }
 
 static bool is_number(struct heidezirkel_number found, uint32_t answer, uint32_t value, size_t next) {
@@ -265,13 +452,19 @@ int main(void) {
     struct recording recording = {.log = lend(200)};
     check_clear();
     check_contexts();
+    check_timers();
     check_remembered();
     check_return();
+    check_invitation();
+    check_expiry();
+    check_kept();
     check_reasons();
+    check_files();
     check_begin(&recording);
     check_recorded(&recording);
     check_looked_at();
     check_judged(&recording);
+    check_invitations_judged();
     check_settings();
     check_numbers();
     give_back(&recording.log);
