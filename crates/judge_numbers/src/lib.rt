@@ -59,8 +59,8 @@ fn judged(own: Own, settings: &[u8], run: Run, log: &[u8]) -> Judged
     judge::judge(own, &settings[start..end], log)
 }
 
-// The log judge over thirteen octets of settings.
-pub fn judge_log(settings: &[u8; 13], log: &[u8]) -> Judgement
+// The log judge over twenty-one octets of settings.
+pub fn judge_log(settings: &[u8; 21], log: &[u8]) -> Judgement
     ensures { λ r. ⌜ r ≡ judgementOf (judgeOf (ownOf (now (settings .entry))) (identityOf (now (settings .entry))) (now (log .entry))) ⌝ }
 {
     let own = settings_octets::own_of(settings);
