@@ -1,21 +1,9 @@
-/* promises: what the line protocol can't show of the C library: octets that are no context, contexts that an older host kept, the octets and the faults of a
- * settings file, calls that are recorded and judged.
+/* promises: what the line protocol can't show of the C library: octets that are no context, the octets and the faults of a settings file, a call that is recorded
+ * and judged; and what invitations.c has.
  * The expected values are worked out by hand from documents 01 and 02. Status 1, and a line on standard error for each, where one is not as promised. */
-#include "heidezirkel.h"
-#include "lent.h"
+#include "played.h"
 #include <stdio.h>
 #include <string.h>
-
-#define EXPECT(condition) \
-    do { \
-        bool held = (condition); \
-        line_number = __LINE__; \
-        promise(held, #condition); \
-    } while (0)
-
-/* cksn=3, classmark=3319a2, identity=f423a1b2, conn_req_ms=12000, present_ms=60000 */
-static const uint8_t settings[21] = {3, 0x33, 0x19, 0xa2, 4, 0xf4, 0x23, 0xa1, 0xb2, 0, 0, 0, 0, 0xe0, 0x2e, 0, 0, 0x60, 0xea, 0, 0};
-static const uint8_t nothing[1];
 
 static void check_clear(void) {
     static const uint8_t cleared[16];
@@ -156,24 +144,6 @@ static void check_files(void) {
     check_read("cksn=7\nclassmark=FFffFF\npresent_ms=600000\nidentity=0102030405060708\nconn_req_ms=30000\n", 30000, 600000, greatest);
 }
 
-/* A host's log as it grows. */
-struct recording {
-    uint8_t context[16];
-    uint8_t reply[255];
-    struct lent log;
-    size_t used;
-};
-
-static void happen(struct recording *now, uint32_t delta, struct heidezirkel_event event, const uint8_t *message, size_t length) {
-    struct heidezirkel_step step =
-        heidezirkel_step(now->context, settings, event, message, length, now->reply, sizeof now->reply);
-    struct heidezirkel_used recorded = heidezirkel_record(now->log.octets, now->log.length, now->used, delta, event, message, length, step,
-        now->context, now->reply, step.reply_length);
-    EXPECT(recorded.answer == HEIDEZIRKEL_TAKEN);
-    now->used = recorded.used;
-    EXPECT(kept(&now->log, now->used));
-}
-
 /* Case c6 of document 01 in version 3, joined 2,500 ms after it was notified; then a GET STATUS that is ignored, TERMINATION, and a call of the radio's own,
  * whose reply is logged. */
 enum { JOIN_ACTIONS = 19 }; /* the place of the join's actions */
@@ -201,17 +171,6 @@ static void play(struct recording *now) {
     happen(now, 0, immediate, nothing, 0);
 }
 
-/* A step from one context to another, octet for octet. */
-static void leads(const uint8_t before[16], uint32_t event, const uint8_t *message, size_t length, const uint8_t after[16], uint32_t actions) {
-    struct lent context = lend_octets(before, 16);
-    uint8_t reply[255];
-    struct heidezirkel_step step =
-        heidezirkel_step(context.octets, settings, (struct heidezirkel_event){.number = event}, message, length, reply, sizeof reply);
-    EXPECT(step.answer == HEIDEZIRKEL_TAKEN && step.actions == actions);
-    EXPECT(memcmp(context.octets, after, 16) == 0);
-    give_back(&context);
-}
-
 /* A termination is asked from U1 and from U2, and rejected: back to the state, with its row and without a timer. */
 static void check_return(void) {
     static const uint8_t in_u1[16] = {HEIDEZIRKEL_U1, 12, HEIDEZIRKEL_T_MM_EST, 2, 5, 6, 7, 8};
@@ -229,66 +188,6 @@ static void check_return(void) {
     leads(from_u2, HEIDEZIRKEL_EVENT_RECEIVED, reject, sizeof reject, in_u2, HEIDEZIRKEL_DO_INFORM);
     leads(from_u2, HEIDEZIRKEL_EVENT_RECEIVED, termination, sizeof termination, cleared, HEIDEZIRKEL_DO_INFORM + HEIDEZIRKEL_DO_RELEASE);
     leads(from_u1, HEIDEZIRKEL_EVENT_TERM_EXPIRED, nothing, 0, cleared, HEIDEZIRKEL_DO_INFORM + HEIDEZIRKEL_DO_ABORT);
-}
-
-/* An invitation: its timer runs from the notification on, and until the radio is in another state. */
-static void check_invitation(void) {
-    static const uint8_t cleared[16];
-    static const uint8_t notified[16] = {HEIDEZIRKEL_U3, 0, HEIDEZIRKEL_T_PRES};
-    static const uint8_t invited[16] = {HEIDEZIRKEL_U3, 0, HEIDEZIRKEL_T_PRES, 2, 5, 6, 7, 8};
-    static const uint8_t attached[16] = {HEIDEZIRKEL_U3, HEIDEZIRKEL_D_ATT, HEIDEZIRKEL_T_PRES, 2, 5, 6, 7, 8};
-    static const uint8_t joining[16] = {HEIDEZIRKEL_U4, 0, HEIDEZIRKEL_T_CONN_REQ, 2, 5, 6, 7, 8};
-    static const uint8_t termination[] = {0x21, 0x34, 0x01, 0x90};
-    static const uint8_t set_parameter[] = {0x21, 0x3a, 0x08};
-    leads(cleared, HEIDEZIRKEL_EVENT_NOTIFIED, nothing, 0, notified, HEIDEZIRKEL_DO_INFORM);
-    leads(invited, HEIDEZIRKEL_EVENT_JOIN, nothing, 0, joining, HEIDEZIRKEL_DO_REQUEST_GROUP_RECEIVE);
-    leads(invited, HEIDEZIRKEL_EVENT_PRES_EXPIRED, nothing, 0, cleared, 0);
-    leads(invited, HEIDEZIRKEL_EVENT_RELEASE, nothing, 0, cleared, HEIDEZIRKEL_DO_RELEASE);
-    leads(invited, HEIDEZIRKEL_EVENT_RADIO_LINK_FAILURE, nothing, 0, cleared, HEIDEZIRKEL_DO_INFORM + HEIDEZIRKEL_DO_ABORT);
-    leads(invited, HEIDEZIRKEL_EVENT_ABORT_OR_RELEASE, nothing, 0, cleared, HEIDEZIRKEL_DO_INFORM + HEIDEZIRKEL_DO_ABORT);
-    leads(invited, HEIDEZIRKEL_EVENT_RECEIVED, termination, sizeof termination, cleared, HEIDEZIRKEL_DO_INFORM + HEIDEZIRKEL_DO_RELEASE);
-    leads(invited, HEIDEZIRKEL_EVENT_RECEIVED, set_parameter, sizeof set_parameter, attached, 0);
-}
-
-/* The answer to an event that carries nothing; refused, it changes no octet. */
-static uint32_t answer_in(const uint8_t octets[16], uint32_t event) {
-    struct lent context = lend_octets(octets, 16);
-    uint8_t reply[255];
-    struct heidezirkel_step step =
-        heidezirkel_step(context.octets, settings, (struct heidezirkel_event){.number = event}, nothing, 0, reply, sizeof reply);
-    EXPECT(step.answer == HEIDEZIRKEL_TAKEN || kept(&context, 0));
-    refusals_seen += step.answer != HEIDEZIRKEL_TAKEN;
-    give_back(&context);
-    return step.answer;
-}
-
-/* The expiry of T_pres has a step in U3 alone; there is no event 0 and none from 20 on. */
-static void check_expiry(void) {
-    static const uint8_t fit[8][16] = {
-        {HEIDEZIRKEL_U0}, {HEIDEZIRKEL_U0_P, 8, HEIDEZIRKEL_T_MM_EST}, {HEIDEZIRKEL_U1, 12, HEIDEZIRKEL_T_MM_EST}, {HEIDEZIRKEL_U2, 15},
-        {HEIDEZIRKEL_U3, 0, HEIDEZIRKEL_T_PRES}, {HEIDEZIRKEL_U4, 0, HEIDEZIRKEL_T_CONN_REQ},
-        {HEIDEZIRKEL_U5, 15, HEIDEZIRKEL_T_TERM, [8] = HEIDEZIRKEL_U1}, {HEIDEZIRKEL_U6, 2, HEIDEZIRKEL_T_NO_CHANNEL},
-    };
-    for (size_t state = 0; state < 8; state++) {
-        uint32_t expected = state == HEIDEZIRKEL_U3 ? HEIDEZIRKEL_TAKEN : HEIDEZIRKEL_NO_STEP;
-        EXPECT(answer_in(fit[state], HEIDEZIRKEL_EVENT_PRES_EXPIRED) == expected);
-        EXPECT(answer_in(fit[state], 0) == HEIDEZIRKEL_OUT_OF_RANGE);
-        EXPECT(answer_in(fit[state], 20) == HEIDEZIRKEL_OUT_OF_RANGE);
-        EXPECT(answer_in(fit[state], UINT32_MAX) == HEIDEZIRKEL_OUT_OF_RANGE);
-    }
-}
-
-/* A context that an older host kept in U3, where no timer ran: refused at every event. Cleared, or with T_pres, it goes on. */
-static void check_kept(void) {
-    static const uint8_t joining[16] = {HEIDEZIRKEL_U4, 0, HEIDEZIRKEL_T_CONN_REQ, 2, 5, 6, 7, 8};
-    uint8_t older[16] = {HEIDEZIRKEL_U3, 0, 0, 2, 5, 6, 7, 8};
-    for (uint32_t event = 0; event <= 20; event++)
-        EXPECT(answer_in(older, event) == HEIDEZIRKEL_NO_CONTEXT);
-    older[2] = HEIDEZIRKEL_T_PRES;
-    leads(older, HEIDEZIRKEL_EVENT_JOIN, nothing, 0, joining, HEIDEZIRKEL_DO_REQUEST_GROUP_RECEIVE);
-    older[2] = 0;
-    EXPECT(heidezirkel_clear(older) == HEIDEZIRKEL_TAKEN);
-    EXPECT(answer_in(older, HEIDEZIRKEL_EVENT_NOTIFIED) == HEIDEZIRKEL_TAKEN);
 }
 
 static void check_begin(struct recording *now) {
@@ -325,20 +224,6 @@ static void check_looked_at(void) {
     give_back(&log);
 }
 
-/* Accepted, with so many entries and these timers: least and greatest of the joining timer, then of the invitation timer. */
-static bool accepts(struct heidezirkel_judgement judged, size_t entries, uint32_t least, uint32_t greatest, uint32_t invitation_least,
-    uint32_t invitation_greatest) {
-    return judged.answer == HEIDEZIRKEL_TAKEN && judged.entry == entries && judged.least_ms == least && judged.greatest_ms == greatest
-        && judged.invitation_least_ms == invitation_least && judged.invitation_greatest_ms == invitation_greatest;
-}
-
-/* Refused at an entry: no timer is told. */
-static bool refuses(struct heidezirkel_judgement judged, uint32_t answer, size_t entry) {
-    refusals_seen++;
-    return judged.answer == answer && judged.entry == entry && judged.least_ms == 0 && judged.greatest_ms == 0 && judged.invitation_least_ms == 0
-        && judged.invitation_greatest_ms == 0;
-}
-
 static void check_judged(const struct recording *now) {
     EXPECT(accepts(heidezirkel_judge(settings, now->log.octets, now->used), 6, 20000, 30000, 2500, 600000));
     EXPECT(refuses(heidezirkel_judge(settings, now->log.octets, now->used - 1), HEIDEZIRKEL_UNREADABLE_LOG, 6));
@@ -357,61 +242,6 @@ static void check_judged(const struct recording *now) {
             EXPECT(refuses(judged, HEIDEZIRKEL_UNREADABLE_LOG, 0));
     }
     now->log.octets[0] = 3;
-}
-
-/* A log of a notification, and of one event a while after it. */
-static struct recording after_a_while(uint32_t delta, uint32_t event) {
-    struct recording made = {.log = lend(64)};
-    happen(&made, 5, (struct heidezirkel_event){.number = HEIDEZIRKEL_EVENT_NOTIFIED, .value = 1}, nothing, 0);
-    happen(&made, delta, (struct heidezirkel_event){.number = event}, nothing, 0);
-    return made;
-}
-
-/* An invitation that runs out after `delta` and one that is joined after it: the timers that explain each, and both in one log. */
-static void check_waiting(uint32_t delta) {
-    struct recording out = after_a_while(delta, HEIDEZIRKEL_EVENT_PRES_EXPIRED);
-    struct recording joined = after_a_while(delta, HEIDEZIRKEL_EVENT_JOIN);
-    struct heidezirkel_judgement judged = heidezirkel_judge(settings, out.log.octets, out.used);
-    if (delta >= 1000 && delta <= 600000)
-        EXPECT(accepts(judged, 2, 10000, 30000, delta, delta));
-    else
-        EXPECT(refuses(judged, HEIDEZIRKEL_UNEXPLAINED, 2));
-    judged = heidezirkel_judge(settings, joined.log.octets, joined.used);
-    if (delta <= 600000)
-        EXPECT(accepts(judged, 2, 10000, 30000, delta < 1000 ? 1000 : delta, 600000));
-    else
-        EXPECT(refuses(judged, HEIDEZIRKEL_UNEXPLAINED, 2));
-    /* Versions 1 and 2 have no such timer: any wait is explained, and there is no event 19. */
-    for (uint8_t version = 1; version <= 2; version++) {
-        out.log.octets[0] = joined.log.octets[0] = version;
-        EXPECT(refuses(heidezirkel_judge(settings, out.log.octets, out.used), HEIDEZIRKEL_UNREADABLE_LOG, 2));
-        EXPECT(accepts(heidezirkel_judge(settings, joined.log.octets, joined.used), 2, 10000, 30000, 0, 0));
-    }
-    give_back(&out.log);
-    give_back(&joined.log);
-}
-
-/* One log with an invitation that runs out after 12,000 ms, one that is joined after `waited`, and a joining timer that runs out after 11,000 ms: two timers of
- * their own, and one invitation timer for both invitations. */
-static void check_both(uint32_t waited) {
-    struct recording made = after_a_while(12000, HEIDEZIRKEL_EVENT_PRES_EXPIRED);
-    happen(&made, 0, (struct heidezirkel_event){.number = HEIDEZIRKEL_EVENT_NOTIFIED, .value = 2}, nothing, 0);
-    happen(&made, waited, (struct heidezirkel_event){.number = HEIDEZIRKEL_EVENT_JOIN}, nothing, 0);
-    happen(&made, 11000, (struct heidezirkel_event){.number = HEIDEZIRKEL_EVENT_CONN_REQ_EXPIRED}, nothing, 0);
-    struct heidezirkel_judgement judged = heidezirkel_judge(settings, made.log.octets, made.used);
-    if (waited <= 12000)
-        EXPECT(accepts(judged, 5, 11000, 11000, 12000, 12000));
-    else
-        EXPECT(refuses(judged, HEIDEZIRKEL_UNEXPLAINED, 4));
-    give_back(&made.log);
-}
-
-static void check_invitations_judged(void) {
-    static const uint32_t waits[] = {0, 999, 1000, 1001, 45000, 599999, 600000, 600001, 86400000};
-    for (size_t i = 0; i < sizeof waits / sizeof waits[0]; i++)
-        check_waiting(waits[i]);
-    check_both(12000);
-    check_both(12001);
 }
 
 /* No settings: what a host has that began with zeros and did not look. And octets behind the identity, and the timers', which have no effect. */
@@ -455,16 +285,13 @@ int main(void) {
     check_timers();
     check_remembered();
     check_return();
-    check_invitation();
-    check_expiry();
-    check_kept();
     check_reasons();
     check_files();
     check_begin(&recording);
     check_recorded(&recording);
     check_looked_at();
     check_judged(&recording);
-    check_invitations_judged();
+    check_invitations();
     check_settings();
     check_numbers();
     give_back(&recording.log);
