@@ -36,7 +36,7 @@ written-back (suc left) n behind f d z = go (eqb n 0) refl (written-back left (n
   where
     go : (t : Bool) → eqb n 0 ≡ t
         → (digits 10 ((0x30 + n % 10) ∷ behind) ≡ true → (n / 10 ≡ 0 → NoZero ((0x30 + n % 10) ∷ behind))
-            → Written-back (n / 10) ((0x30 + n % 10) ∷ behind) (digitsTo left (n / 10) ((0x30 + n % 10) ∷ behind)))
+        → Written-back (n / 10) ((0x30 + n % 10) ∷ behind) (digitsTo left (n / 10) ((0x30 + n % 10) ∷ behind)))
         → Written-back n behind (cond t behind (digitsTo left (n / 10) ((0x30 + n % 10) ∷ behind)))
     go true q ih = let e : n ≡ 0 = eqb-true n 0 q in record { digits-all = d; number = rw e; lead = z e }
     go false q ih =

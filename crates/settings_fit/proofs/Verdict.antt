@@ -178,9 +178,9 @@ walk-named : (x : Setting) (xs : List Setting) → nameOf x < named → ((before
 unfolding readFrom
 walk-named x xs h rest before seen m =
     rw (turn-named seen x h) (
-      at-once (Outcome (before ++ nameOf x ∷ map nameOf xs)) _ xs (flag (flags seen) (nameOf x)) _
-      (λ t. stops before seen m (nameOf x) _ Repeated refl (inr (m .names (nameOf x) h ∙ ap bit t)))
-      λ f. onward (nameOf x) before (map nameOf xs) (nextOf seen x) xs (rest (before ++ nameOf x ∷ []) (nextOf seen x) (marks-next seen before x h f m)))
+    at-once (Outcome (before ++ nameOf x ∷ map nameOf xs)) _ xs (flag (flags seen) (nameOf x)) _
+    (λ t. stops before seen m (nameOf x) _ Repeated refl (inr (m .names (nameOf x) h ∙ ap bit t)))
+    λ f. onward (nameOf x) before (map nameOf xs) (nextOf seen x) xs (rest (before ++ nameOf x ∷ []) (nextOf seen x) (marks-next seen before x h f m)))
 
 walk : (xs : List Setting) (before : List ℕ) (seen : Seen) → Marks seen before → FaultyAll xs → Walks xs before seen
 unfolding readFrom turnOf

@@ -46,7 +46,9 @@ fn say_settings(buffer: &mut [u8], output: Output, settings: Settings) -> Output
     let key = say_key(buffer, output, settings.key);
     let mark = say_octets(buffer, key, &classmark);
     let own = say_octets(buffer, mark, part(&identity, 0, count));
-    say_joining(buffer, own, settings.joining)
+    let joining = say_milliseconds(buffer, own, settings.joining);
+    let invitation = say_milliseconds(buffer, joining, settings.invitation);
+    say(buffer, invitation, b"\n")
 }
 
 fn say_key(buffer: &mut [u8], output: Output, key: u8) -> Output {
@@ -54,14 +56,13 @@ fn say_key(buffer: &mut [u8], output: Output, key: u8) -> Output {
     say_number(buffer, answer, key)
 }
 
-// Octets with the space before them.
+// Octets, and a timer, with the space before them.
 fn say_octets(buffer: &mut [u8], output: Output, octets: &[u8]) -> Output {
     let space = say(buffer, output, b" ");
     say_hex(buffer, space, octets)
 }
 
-fn say_joining(buffer: &mut [u8], output: Output, joining: u32) -> Output {
+fn say_milliseconds(buffer: &mut [u8], output: Output, milliseconds: u32) -> Output {
     let space = say(buffer, output, b" ");
-    let timer = say_decimal(buffer, space, joining as u64);
-    say(buffer, timer, b"\n")
+    say_decimal(buffer, space, milliseconds as u64)
 }
