@@ -46,9 +46,7 @@ fn say_settings(buffer: &mut [u8], output: Output, settings: Settings) -> Output
     let key = say_key(buffer, output, settings.key);
     let mark = say_octets(buffer, key, &classmark);
     let own = say_octets(buffer, mark, part(&identity, 0, count));
-    let joining = say_milliseconds(buffer, own, settings.joining);
-    let invitation = say_milliseconds(buffer, joining, settings.invitation);
-    say(buffer, invitation, b"\n")
+    say_timers(buffer, own, settings.joining, settings.invitation)
 }
 
 fn say_key(buffer: &mut [u8], output: Output, key: u8) -> Output {
@@ -56,10 +54,17 @@ fn say_key(buffer: &mut [u8], output: Output, key: u8) -> Output {
     say_number(buffer, answer, key)
 }
 
-// Octets, and a timer, with the space before them.
+// Octets with the space before them.
 fn say_octets(buffer: &mut [u8], output: Output, octets: &[u8]) -> Output {
     let space = say(buffer, output, b" ");
     say_hex(buffer, space, octets)
+}
+
+// The two timers, and the line's end.
+fn say_timers(buffer: &mut [u8], output: Output, joining: u32, invitation: u32) -> Output {
+    let first = say_milliseconds(buffer, output, joining);
+    let second = say_milliseconds(buffer, first, invitation);
+    say(buffer, second, b"\n")
 }
 
 fn say_milliseconds(buffer: &mut [u8], output: Output, milliseconds: u32) -> Output {
