@@ -19,7 +19,7 @@ use Rattle.settings.specs.Settings.{meaning, endOf, readFrom, settingsOf, accep
 use Rattle.settings_values.specs.Values.{InRange}
 use Rattle.settings_fit.specs.Written.{Digit, HexText, none, octet, decimalText, Writes, key-line, classmark-line, identity-line, joining-line, invitation-line, WritesAll, no-line, and-line, named, times, Fit}
 use Rattle.settings_values.proofs.Digits.{digit-upper, digit-lower}
-use Rattle.settings_fit.proofs.Names.{bit, flag, Once, once-new, once-next}
+use Rattle.settings_fit.proofs.Names.{bit, Once, once-new, once-next}
 use Rattle.settings_fit.proofs.Numbers.{milliseconds-back}
 use Rattle.settings_fit.proofs.Texts.{digit-low}
 

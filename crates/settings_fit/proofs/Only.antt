@@ -1,14 +1,14 @@
 -- Only a fit file is accepted: a line that sets something writes it, in the form that document 01 gives.
 use Prim.Native.Nat.{ℕ, zero, suc, _+_, _/_, _%_, _≤_, _<_}
 use mathlib.Core.Path.{_≡_, refl, sym, ap, subst, _∙_}
-use mathlib.Core.Bool.{Bool, true, false, cond, not, _&&_}
+use mathlib.Core.Bool.{Bool, true, false, cond, _&&_}
 use mathlib.Core.List.{List, [], _∷_, _++_, map}
 use native.Mathlib.Omega.{arith}
 use borrow.Author.Tests.{leb-true, ltb-true, eqb-true}
 use lib.Dec.{leb, eqb}
 use lib.ListN.{length, getD, take, drop, take-append-drop}
 use lib.Seq.{take-append-seam}
-use Rattle.octets.proofs.Choice.{never, at-cond}
+use Rattle.octets.proofs.Choice.{at-cond}
 use Rattle.timer.specs.Timers.{joiningLeast, joiningGreatest, invitationLeast, invitationGreatest}
 use Rattle.settings_values.specs.declared.Settings.{Settings}
 use Rattle.settings.specs.Lines.{Line, Ended, Cut, longer, lines}

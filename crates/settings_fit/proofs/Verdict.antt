@@ -6,7 +6,6 @@ use mathlib.Core.List.{List, [], _∷_, _++_, map, append-nil}
 use mathlib.Core.Logic.{_⊎_, inl, inr}
 use native.Mathlib.Omega.{arith}
 use borrow.Author.Tests.{not-true, not-false, ne-eqb}
-use lib.Dec.{eqb}
 use lib.ListN.{length, length-append, getD-replicate}
 use lib.Seq.{append-snoc}
 use Rattle.octets.proofs.Choice.{never, at-cond}

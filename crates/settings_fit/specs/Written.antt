@@ -1,12 +1,12 @@
 -- Fit files: what it is that a file writes some settings. For the promise that a fit file, and no other, is read, and exactly.
--- Document 01, "Settings file": "lines, each ended by LF, any order, each once", "Upper or lower hex".
-use Prim.Native.Nat.{ℕ, zero, suc, _+_, _/_, _%_, _≤_, _<_}
+-- Document 01, "Settings file": "each ended by LF, any order, each once", "Upper or lower hex".
+use Prim.Native.Nat.{ℕ, zero, suc, _+_, _/_, _%_, _<_}
 use mathlib.Core.Path.{_≡_}
 use mathlib.Core.Bool.{cond}
 use mathlib.Core.List.{List, [], _∷_, _++_}
 use mathlib.Core.Logic.{_⊎_}
 use lib.Dec.{ltb, eqb}
-use lib.ListN.{length, take}
+use lib.ListN.{take}
 use Rattle.settings_values.specs.declared.Settings.{Settings}
 use Rattle.settings_values.specs.Values.{InRange}
 use Rattle.settings_line.specs.Line.{cksn=, classmark=, identity=, «conn_req_ms=», «present_ms=»}

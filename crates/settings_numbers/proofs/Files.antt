@@ -2,7 +2,7 @@
 use Prim.Native.Nat.{ℕ}
 use mathlib.Core.Path.{_≡_, refl}
 use mathlib.Core.List.{List}
-use borrow.Author.Tests.{eq-eqb, ne-eqb}
+use borrow.Author.Tests.{ne-eqb}
 use Rattle.settings.specs.declared.ReadSettings.{ReadSettings}
 use Rattle.settings.specs.Settings.{settingsOf}
 use Rattle.settings_octets.specs.Octets.{octetsOf}

@@ -34,7 +34,7 @@ isMilliseconds least greatest text = digits 10 text && not (eqb (getD text 0 0) 
 abbrev pub isJoining : List ℕ → Bool
 isJoining text = isMilliseconds joiningLeast joiningGreatest text
 
--- "`present_ms=`, decimal, no leading zero, 1000 to 600000"
+-- "a fifth setting, 1,000 to 600,000 ms, in a fifth required line `present_ms=`"
 abbrev pub isInvitation : List ℕ → Bool
 isInvitation text = isMilliseconds invitationLeast invitationGreatest text
 
