@@ -10,7 +10,8 @@ use crate::log::record::record;
 use crate::own::Own;
 use crate::probe::answer;
 use crate::step::table::Row;
-use crate::tables::{Table, TABLES};
+use crate::tables::TABLES;
+use crate::timer::Length;
 
 fn commands(seed: u64, count: u64, word: &str) -> Vec<String> {
     let mut lines = Vec::new();
@@ -37,14 +38,15 @@ fn true_runs_are_accepted() {
     for _ in 0..2_000 {
         let run = true_run(&mut random);
         match judged(&run, &run.log()) {
-            Judgement::Accepted {
-                count,
-                least,
-                greatest,
-            } => {
+            Judgement::Accepted { count, windows } => {
                 assert_eq!(count, run.entries.len() as u64);
-                assert!((least..=greatest).contains(&run.conn_req));
-                assert!(least >= 10_000 && greatest <= 30_000);
+                assert_eq!(windows.len(), run.table.settings().len());
+                for (setting, window) in run.table.settings().iter().zip(windows) {
+                    let length = Length::Set(*setting).milliseconds(&run.chosen);
+                    assert!((window.least..=window.greatest).contains(&length));
+                    let (least, greatest) = setting.bounds();
+                    assert!(window.least >= least && window.greatest <= greatest);
+                }
             }
             other => panic!("{other:?}"),
         }
@@ -69,7 +71,7 @@ fn true_runs_reach_every_row_and_answer() {
 
 /// How often each row was taken, and each answer given.
 fn count_rows(run: &Walk, rows: &mut [(&Row, u32)], answers: &mut [u32; 4]) {
-    let mut again = Walk::begin(run.table, run.own.clone(), run.conn_req);
+    let mut again = Walk::begin(run.table, run.own.clone(), run.chosen);
     for entry in &run.entries {
         answers[entry.answer as usize] += 1;
         for (row, count) in rows.iter_mut() {
@@ -181,12 +183,13 @@ fn runs_by_each_table_are_judged_under_each_version() {
     let mut random = Random::from_seed(9);
     for table in TABLES.into_iter().cycle().take(400) {
         let lines = versions::round(&mut random, table);
-        // True and changed, each under 1 and under 2.
-        assert_eq!(lines.len(), 4);
-        let own = usize::from(table == Table::Second);
+        // True and changed, each under 1, under 2 and under 3.
+        assert_eq!(lines.len(), 6);
+        let own = table.version() as usize - 1;
         assert!(answer(lines[own].as_bytes()).starts_with("0 "));
         let entries = |line: &str| line.rsplit_once(' ').expect("a log").1[2..].to_string();
-        assert_eq!(entries(&lines[0]), entries(&lines[1]));
-        assert_eq!(entries(&lines[2]), entries(&lines[3]));
+        for same in [&lines[..3], &lines[3..]] {
+            assert!(same.iter().all(|line| entries(line) == entries(&same[0])));
+        }
     }
 }

@@ -5,6 +5,7 @@
 
 mod cases;
 mod generated;
+mod invitations;
 mod limits;
 mod lines;
 mod messages;
