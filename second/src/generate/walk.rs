@@ -120,7 +120,7 @@ pub fn likely_event(random: &mut Random, table: Table, context: &Context, own: &
     match random.below(20) {
         0..=12 => {
             let trigger = match running_out(table, context) {
-                Some(expiry) if random.one_in(10) => Trigger::Event(expiry),
+                Some(expiry) if random.one_in(6) => Trigger::Event(expiry),
                 _ => likely_row(random, table, context).trigger,
             };
             on_trigger(random, table, trigger, context, own)

@@ -158,6 +158,60 @@ fn every_reason_is_reached_often() {
     assert!(reasons.iter().all(|&count| count > 100), "{reasons:?}");
 }
 
+/// Commands by chance with their answers, both in tokens; spoilt lines left out.
+fn asked(seed: u64, word: &str) -> Vec<(Vec<String>, Vec<String>)> {
+    let tokens = |line: &str| line.split(' ').map(str::to_string).collect::<Vec<String>>();
+    commands(seed, 20_000, word)
+        .iter()
+        .map(|line| (tokens(line), tokens(&answer(line.as_bytes()))))
+        .filter(|(_, answered)| answered[0] != "?")
+        .collect()
+}
+
+#[test]
+fn invitations_are_reached_often() {
+    let steps = asked(10, "step");
+    let count = |event: &str, answered: &str| {
+        let with_it = |(line, got): &&(Vec<String>, Vec<String>)| {
+            line[11] == event && got.join(" ").starts_with(answered)
+        };
+        steps.iter().filter(with_it).count()
+    };
+    // Notified, joined, run out, run out elsewhere, no event, not fit.
+    assert!(count("10", "0 4 0 16 ") > 30);
+    assert!(count("3", "0 5 0 2 ") > 30);
+    assert!(count("19", "0 0 0 0 0 00000000 0 0 -") > 30);
+    assert!(count("19", "3 ") > 30);
+    assert!(count("20", "4 ") > 30);
+    assert!(count("19", "7 ") > 10);
+    // Version 3 accepted, with an invitation timer fixed by its expiry, and refused.
+    let logs = asked(11, "judge");
+    let judged = |fits: &dyn Fn(&str, &[String]) -> bool| {
+        logs.iter()
+            .filter(|(line, got)| fits(&line[4], got))
+            .count()
+    };
+    assert!(judged(&|log, got| log.starts_with("03") && got.len() == 6) > 1_000);
+    assert!(judged(&|_, got| got.len() == 6 && got[4] == got[5] && got[5] != "600000") > 200);
+    assert!(judged(&|log, got| log.starts_with("03") && got[0] == "9") > 500);
+    // Files with each limit of the fifth line, and without that line.
+    let files = asked(12, "settings");
+    let read = |ends: &str| {
+        files
+            .iter()
+            .filter(|(_, got)| got.join(" ").ends_with(ends))
+            .count()
+    };
+    assert!(read(" 1000") > 100 && read(" 600000") > 100);
+    assert!(
+        files
+            .iter()
+            .filter(|(_, got)| got.join(" ") == "12 5")
+            .count()
+            > 100
+    );
+}
+
 #[test]
 fn every_answer_number_is_reached() {
     let reached = |word: &str| {
