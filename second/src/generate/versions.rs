@@ -109,12 +109,26 @@ fn be_invited(random: &mut Random, walk: &mut Walk) {
 /// claim, or in its time.
 fn changed(random: &mut Random, walk: &Walk) -> Vec<Entry> {
     let mut entries = walk.entries.clone();
-    match random.below(4) {
+    match random.below(5) {
         0 | 1 => as_by_another(random, walk, &mut entries),
         2 => claim(random, &mut entries),
+        3 => time_in_u3(random, &mut entries),
         _ => time(random, &mut entries),
     }
     entries
+}
+
+/// Another time of one entry in U3: none, short of the least timer, or about the
+/// greatest and far beyond it.
+fn time_in_u3(random: &mut Random, entries: &mut [Entry]) {
+    let u3 = u32::from(State::U3.number());
+    let places: Vec<usize> = (1..entries.len())
+        .filter(|&place| entries[place - 1].state == u3)
+        .collect();
+    if !places.is_empty() {
+        let place = random.pick(&places);
+        entries[place].delta = random.pick(&[0, 500, 999, 600_000, 600_001, 86_400_000]);
+    }
 }
 
 /// The first entry in which another table's run of the same events differs,
