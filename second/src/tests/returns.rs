@@ -1,5 +1,5 @@
 //! A rejected termination leads back to the state that it was asked from
-//! (document 02, A2): the rows, what is fit, and logs of both versions. FROM is
+//! (document 02, A2): the rows, what is fit, and logs of versions 1 and 2. FROM is
 //! 2 for U1, 3 for U2, 0 for nothing.
 
 use super::{cleared, expect, expect_ignored, expect_step};
