@@ -7,4 +7,4 @@ pub mod Reading
 pub mod Start
 pub mod Points
 pub mod Recorded
-pub mod OneTimer
+pub mod TwoTimers
