@@ -7,4 +7,5 @@ pub mod Walk
 pub mod Points
 pub mod Start
 pub mod TwoTimers
+pub mod NeverRuns
 pub mod Example

@@ -8,3 +8,4 @@ pub mod Start
 pub mod Points
 pub mod Recorded
 pub mod TwoTimers
+pub mod NeverRuns
