@@ -5,11 +5,13 @@ use mathlib.Core.Bool.{Bool, true, false, _||_}
 use lib.Dec.{eqb, ltb}
 use borrow.Author.Tests.{ltb-false, le-ltb, ne-eqb}
 use Rattle.octets.proofs.Choice.{never}
-use Rattle.timer.specs.Timers.{expiryOf}
+use Rattle.timer.specs.declared.Timer.the-variants.{ConnReq, Pres}
+use Rattle.timer.specs.declared.Window.{Window}
+use Rattle.timer.specs.Timers.{timerNumber, expiryOf}
 use Rattle.judge_time.specs.declared.Clock.{Clock}
 use Rattle.judge_time.specs.declared.Ticked.{Ticked}
-use Rattle.judge_time.specs.declared.Ticked.the-variants.{Onward, Astray}
-use Rattle.judge_time.specs.Clock.{astray, startedAt, whileRunning, tickOf}
+use Rattle.judge_time.specs.declared.Ticked.the-variants.{Onward, OutOfTime, Astray}
+use Rattle.judge_time.specs.Clock.{astray, untimelyAt, windowLeft, startedAt, leftWith, whileRunning, tickOf}
 
 -- ---- astray
 
@@ -29,6 +31,19 @@ timely time started e =
 pub not-astray : (time started : ℕ) → time ≤ 5662310400000 → started ≤ time → astray time started ≡ false
 unfolding astray
 not-astray time started h k = rw (le-ltb 5662310400000 time h, le-ltb time started k)
+
+-- ---- the ways of a tick while a timer runs
+
+module _ (joining invitation : Window) (timer age : ℕ) (ends : Bool) (time started : ℕ) where
+  pub rule-broken : untimelyAt timer age ends ≡ true → OutOfTime ≡ whileRunning joining invitation timer age ends time started
+  unfolding whileRunning
+  rule-broken u = rw u
+
+  pub rule-kept : untimelyAt timer age ends ≡ false → (a b : ℕ) → a ≡ timerNumber ConnReq → b ≡ timerNumber Pres
+      → (i j : Window) → i ≡ windowLeft (eqb timer a) age ends joining → j ≡ windowLeft (eqb timer b) age ends invitation
+      → (v : Ticked) → v ≡ leftWith i j time started → v ≡ whileRunning joining invitation timer age ends time started
+  unfolding whileRunning
+  rule-kept u a b p q i j k l v w = w ∙ rw (u, k, l, p, q)
 
 -- ---- the ways of a tick
 
