@@ -40,12 +40,12 @@ module _ (x : Context) (fit : fitOf Second x ≡ true) (waiting : x .state ≡ S
     remembered = Remembered.Nothing;
   }
 
-  timers-fit : (not (x .timers .mmest) && (x .timers .term && (not (x .timers .connreq) && not (x .timers .nochannel)))) ≡ true
+  timers-fit : (not (x .timers .mmest) && (x .timers .term && (not (x .timers .connreq) && (not (x .timers .nochannel) && not (x .timers .pres))))) ≡ true
   unfolding timersFitBy fitnessOf
   timers-fit = rw waiting at (fit-timers Second x fit)
 
   -- No timer but T_term runs in U5.
-  others-fit : (not (x .timers .connreq) && not (x .timers .nochannel)) ≡ true
+  others-fit : (not (x .timers .connreq) && (not (x .timers .nochannel) && not (x .timers .pres))) ≡ true
   others-fit = and-right (x .timers .term) _ (and-right (not (x .timers .mmest)) _ timers-fit)
 
   no-mm-est : x .timers .mmest ≡ false
@@ -55,12 +55,15 @@ module _ (x : Context) (fit : fitOf Second x ≡ true) (waiting : x .state ≡ S
   no-conn-req = not-true _ (and-left (not (x .timers .connreq)) _ others-fit)
 
   no-no-channel : x .timers .nochannel ≡ false
-  no-no-channel = not-true _ (and-right (not (x .timers .connreq)) _ others-fit)
+  no-no-channel = not-true _ (and-left (not (x .timers .nochannel)) _ (and-right (not (x .timers .connreq)) _ others-fit))
+
+  no-pres : x .timers .pres ≡ false
+  no-pres = not-true _ (and-right (not (x .timers .nochannel)) _ (and-right (not (x .timers .connreq)) _ others-fit))
 
   pub returns-to-u1 : x .remembered ≡ Remembered.U1 → rejected ≡ took (back State.U1) 1 Send.Nothing
   unfolding stepBy seenOf seenMessage decidedBy decidedIn heardIn stepTable carriedOut afterwards parametersAfter entering withTimer valueAfter referenceAfter returning
-  returns-to-u1 e = rw (waiting, e, no-mm-est, no-conn-req, no-no-channel)
+  returns-to-u1 e = rw (waiting, e, no-mm-est, no-conn-req, no-no-channel, no-pres)
 
   pub returns-to-u2 : x .remembered ≡ Remembered.U2 → rejected ≡ took (back State.U2) 1 Send.Nothing
   unfolding stepBy seenOf seenMessage decidedBy decidedIn heardIn stepTable carriedOut afterwards parametersAfter entering withTimer valueAfter referenceAfter returning
-  returns-to-u2 e = rw (waiting, e, no-mm-est, no-conn-req, no-no-channel)
+  returns-to-u2 e = rw (waiting, e, no-mm-est, no-conn-req, no-no-channel, no-pres)
