@@ -26,9 +26,9 @@ use Rattle.log_claim.specs.Reading.{claimAt}
 use Rattle.log.specs.Reading.{restAt, entryAt}
 use Rattle.table.specs.Judge.{narrow, turn, judgeFrom, judge}
 use Rattle.table.specs.Reading.{entriesIn, entries}
-use Rattle.table.specs.OneTimer.{judgeOne}
-use Rattle.verdict.specs.Table.{parametersNumber, agree}
-use Rattle.verdict.specs.Judge.{versionJudged, judgeOf, answerNumber, answerValues}
+use Rattle.table.specs.TwoTimers.{judgeTwo}
+use Rattle.verdict.specs.Table.{tellsInvitation, parametersNumber, agree}
+use Rattle.verdict.specs.Judge.{invitationTold, versionJudged, judgeOf, answerNumber, answerValues}
 
 -- Settings in range; none of these logs asks for what they are.
 abbrev own : Own
@@ -94,5 +94,5 @@ Answered (c ∷ cs) =
     ((answerNumber (judgeOf own identity (c .0)) ≡ c .1) × (answerValues (judgeOf own identity (c .0)) ≡ c .2)) × Answered cs
 
 pub all-cases : Answered cases
-unfolding judgeOf versionJudged tableOf settingsOut judgeOne judge judgeFrom turn narrow entries entriesIn numberAt groupsAt joined upTo smallAt runAt callAt receivedAt dataAt claimAt restAt entryAt greatestEvent greatestState greatestActions carriesCall agree parametersNumber weighs stepOf refusalOf fitnessRefusal argumentRefusal outOfRange reactedTo dueTo eventOf toldDue settledBy stepBy seenOf carriedOut decidedBy decidedIn stepTable heardIn happenedIn noStep ignored afterwards withTimer parametersAfter entering startRow valueAfter referenceAfter cleared fitBy consistentBy timersFitBy rememberedFitBy isCleared runningAmong remembering returning expiryOf lengthOf replyOf dueOf sameOctets fitnessOf
+unfolding judgeOf versionJudged invitationTold tellsInvitation tableOf settingsOut judgeTwo judge judgeFrom turn narrow entries entriesIn numberAt groupsAt joined upTo smallAt runAt callAt receivedAt dataAt claimAt restAt entryAt greatestEvent greatestState greatestActions carriesCall agree parametersNumber weighs stepOf refusalOf fitnessRefusal argumentRefusal outOfRange reactedTo dueTo eventOf toldDue settledBy stepBy seenOf carriedOut decidedBy decidedIn stepTable heardIn happenedIn noStep ignored afterwards withTimer parametersAfter entering startRow valueAfter referenceAfter cleared fitBy consistentBy timersFitBy rememberedFitBy isCleared runningAmong remembering returning expiryOf lengthOf replyOf dueOf sameOctets fitnessOf
 all-cases = ((refl, refl), ((refl, refl), ((refl, refl), ((refl, refl), ((refl, refl), ((refl, refl), ((refl, refl), ((refl, refl), ((refl, refl), ((refl, refl), ((refl, refl), ((refl, refl), tt))))))))))))
