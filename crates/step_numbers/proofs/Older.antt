@@ -1,11 +1,12 @@
--- Contexts that a host kept from before octet 8 had its use: it is 0 in them, nothing is remembered. Outside U5 they are fit by the second table exactly if they were by the first.
-use mathlib.Core.Path.{_≡_, refl, sym}
+-- Contexts that a host kept from before octet 8 had its use, or octet 2 its fifth bit: both are 0 in them, nothing is remembered and T_pres does not run. Outside U3
+-- and U5 they are fit by the third table exactly if they were by the first; and outside U3 exactly if they were by the second.
+use mathlib.Core.Path.{_≡_, refl, sym, _∙_}
 use mathlib.Core.Bool.{true, false}
 use Rattle.octets.proofs.Choice.{never}
 use Rattle.codes.specs.declared.state.State.{State}
 use Rattle.codes.specs.declared.state.State.the-variants.{U0, U0p, U1, U2, U3, U4, U5, U6}
 use Rattle.timer.specs.declared.Timers.{Timers}
-use Rattle.version.specs.declared.Table.the-variants.{First, Second}
+use Rattle.version.specs.declared.Table.the-variants.{First, Second, Third}
 use Rattle.context.specs.declared.Context.{Context}
 use Rattle.context.specs.declared.Remembered.{Remembered}
 use Rattle.context.specs.States.{same}
@@ -34,6 +35,25 @@ remembered-alike U4 r e = refl
 remembered-alike U5 r e = never (sym e)
 remembered-alike U6 r e = refl
 
-pub older-fit : (x : Context) → same (x .state) U5 ≡ false → fitOf Second x ≡ fitOf First x
+first-and-second : (x : Context) → same (x .state) U5 ≡ false → fitOf Second x ≡ fitOf First x
 unfolding fitBy consistentBy fitnessOf
-older-fit x e = rw (timers-alike (x .state) (x .timers) e, remembered-alike (x .state) (x .remembered) e)
+first-and-second x e = rw (timers-alike (x .state) (x .timers) e, remembered-alike (x .state) (x .remembered) e)
+
+-- The third differs from the second in U3 alone.
+timed-alike : (s : State) (t : Timers) → same s U3 ≡ false → timersFitBy (fitnessOf Third) s t ≡ timersFitBy (fitnessOf Second) s t
+unfolding timersFitBy fitnessOf
+timed-alike U0 t e = refl
+timed-alike U0p t e = refl
+timed-alike U1 t e = refl
+timed-alike U2 t e = refl
+timed-alike U3 t e = never (sym e)
+timed-alike U4 t e = refl
+timed-alike U5 t e = refl
+timed-alike U6 t e = refl
+
+pub second-and-third : (x : Context) → same (x .state) U3 ≡ false → fitOf Third x ≡ fitOf Second x
+unfolding fitBy consistentBy rememberedFitBy fitnessOf
+second-and-third x e = rw (timed-alike (x .state) (x .timers) e)
+
+pub older-fit : (x : Context) → same (x .state) U3 ≡ false → same (x .state) U5 ≡ false → fitOf Third x ≡ fitOf First x
+older-fit x three five = second-and-third x three ∙ first-and-second x five
