@@ -8,10 +8,10 @@ use native.Mathlib.Nat.{zero-add}
 use borrow.Author.Tests.{ne-eqb}
 use Rattle.table.specs.Steps.{Steps, StepLaws}
 use Rattle.table.specs.Log.{Log, done, torn, entry, Entry, Moment, begin, timerBefore, next, Explained, Explains, ExplainsFirst}
-use Rattle.table.specs.Timers.{Interval, Within}
+use Rattle.table.specs.Timers.{TimerLaws, Interval, Within, allKnown}
 use Rattle.table.specs.Verdict.{Verdict, accepted, unreadable, unexplained, Means}
 use Rattle.table.specs.Judge.{judge}
-use Rattle.table.specs.TwoTimers.{Unknowns, lengthsWith, InRange, range, ExplainedBy, FirstExplainedBy, AcceptedBetween, Tells, judgeTwo}
+use Rattle.table.specs.TwoTimers.{Unknowns, knownWith, lengthsWith, InRange, range, ExplainedBy, FirstExplainedBy, AcceptedBetween, Tells, judgeTwo}
 use Rattle.table.specs.NeverRuns.{NeverRuns, SameBut, firstAlone, alone}
 use Rattle.table.proofs.Timers.{all-known-laws, one-more-laws, interval-same}
 use Rattle.table.proofs.Unique.{judge-only}
@@ -48,6 +48,12 @@ module _ (𝓢 : Steps) (k : ℕ) (never : NeverRuns 𝓢 k) (lengths others : �
       (explains-first-so 𝓢 k never lengths others same log n s h, explains-first-so 𝓢 k never others lengths (λ timer d. sym (same timer d)) log n s h)
 
 -- ---- the second of two unknown timers
+
+-- The first alone keeps the laws of timers.
+pub first-alone-laws : (𝓤 : Unknowns) → Ordered 𝓤 → (u : ℕ) → TimerLaws (firstAlone 𝓤 u)
+first-alone-laws 𝓤 ordered u =
+    let a = 𝓤 .first in
+    one-more-laws (a .timer) (a .low) (a .high) (allKnown (knownWith 𝓤 u)) (all-known-laws (knownWith 𝓤 u)) (ordered .0)
 
 module _ (𝓢 : Steps) (𝓤 : Unknowns) (never : NeverRuns 𝓢 (𝓤 .second .timer)) (log : Log (Entry 𝓢)) where
   differ-there : (t u v : ℕ) → SameBut (𝓤 .second .timer) (lengthsWith 𝓤 t u) (lengthsWith 𝓤 t v)
@@ -108,6 +114,5 @@ module _ (𝓢 : Steps) (𝓤 : Unknowns) (never : NeverRuns 𝓢 (𝓤 .second 
     -- So the judge of the two tells of the first what the judge of the first alone does.
     pub judge-alone : StepLaws 𝓢 → alone (judgeTwo 𝓢 𝓤 log) ≡ judge 𝓢 (firstAlone 𝓤 u) log
     judge-alone step-laws =
-        let a = 𝓤 .first in
-        judge-only 𝓢 (firstAlone 𝓤 u) step-laws (one-more-laws (a .timer) (a .low) (a .high) _ (all-known-laws _) (ordered .0)) log (alone (judgeTwo 𝓢 𝓤 log))
+        judge-only 𝓢 (firstAlone 𝓤 u) step-laws (first-alone-laws 𝓤 ordered u) log (alone (judgeTwo 𝓢 𝓤 log))
         (tells-alone (judgeTwo 𝓢 𝓤 log) (judge-two-tells 𝓢 𝓤 step-laws ordered log))
