@@ -24,22 +24,22 @@ use Rattle.reply.specs.declared.Own.{Own}
 use Rattle.version.specs.declared.Table.{Table}
 use Rattle.version.specs.declared.Table.the-variants.{First, Second, Third}
 use Rattle.table.specs.Log.{WellFormed}
-use Rattle.table.specs.Timers.{Interval}
+use Rattle.table.specs.Timers.{Interval, Within}
 use Rattle.table.specs.Verdict.{Verdict, accepted, unreadable, unexplained, IsAccepted}
 use Rattle.table.specs.Judge.{judge}
-use Rattle.table.specs.TwoTimers.{InRange, ExplainedBy}
+use Rattle.table.specs.TwoTimers.{InRange, ExplainedBy, Tells}
 use Rattle.table.specs.NeverRuns.{NeverRuns, firstAlone, alone}
 use Rattle.table.proofs.Complete.{accepted-exactly}
-use Rattle.table.proofs.NeverRuns.{first-alone-laws, judge-alone}
+use Rattle.table.proofs.NeverRuns.{first-alone, first-alone-laws, judge-alone}
 use Rattle.verdict.specs.declared.Invitation.the-variants.{Untold}
 use Rattle.verdict.specs.declared.Judged.{Judged}
-use Rattle.verdict.specs.declared.Judged.the-variants.{Accepted, Unreadable, Unexplained}
+use Rattle.verdict.specs.declared.Judged.the-variants.{Accepted, Unreadable, Unexplained, TooLong, OutOfRange}
 use Rattle.verdict.specs.Table.{steps, joining, invitation, unknowns, tellsInvitation}
-use Rattle.verdict.specs.Judge.{windowOf, invitationTold, judgedOf, judgeOf, answerNumber}
+use Rattle.verdict.specs.Judge.{windowOf, intervalOf, invitationTold, judgedOf, judgeOf, answerNumber}
 use Rattle.verdict.specs.Demand.{Begins, behind}
 use Rattle.verdict.proofs.Laws.{steps-laws}
 use Rattle.verdict.proofs.Kept.{fit-after}
-use Rattle.verdict.proofs.Demand.{verdictAt, judged-begins}
+use Rattle.verdict.proofs.Demand.{verdictAt, tells, judged-begins}
 
 -- ---- T_pres never runs
 
@@ -103,6 +103,26 @@ module _ (own : Own) (identity s : List ℕ) (b : Begins own identity s) (untold
       judged-begins own identity s b ∙ answers-alone (verdictAt own identity s (b .table) (b .place))
       ∙ ap judgedAlone (judge-alone (steps (b .table) own identity) unknowns (never-invited (b .table) untold own identity) (behind own identity s b)
       (omega arith, omega arith) u (steps-laws (b .table) own identity))
+
+  -- "it tells the least and greatest": the joining timers between them are exactly those in range that explain every entry, with an invitation timer of any length; and
+  -- nothing is told of it.
+  abbrev pub JoiningTold : Judged → Type 0
+  JoiningTold (Accepted n w told) =
+      (told ≡ Untold) × ((t u : ℕ) → Within t (intervalOf w) ↔ (InRange joining t × ExplainedBy (steps (b .table) own identity) unknowns (behind own identity s b) t u))
+  JoiningTold (Unreadable n) = Unit
+  JoiningTold (Unexplained n) = Unit
+  JoiningTold TooLong = Unit
+  JoiningTold OutOfRange = Unit
+
+  pub tells-joining : JoiningTold (judgeOf own identity s)
+  unfolding invitationTold
+  tells-joining = rw (judged-begins own identity s b) (go (verdictAt own identity s (b .table) (b .place)) (tells own identity s (b .table) (b .place)))
+    where
+      go : (v : Verdict (Interval × Interval)) → Tells (steps (b .table) own identity) unknowns (behind own identity s b) v → JoiningTold (judgedOf (b .table) v)
+      go (accepted n left) p =
+          (rw untold, first-alone (steps (b .table) own identity) unknowns (never-invited (b .table) untold own identity) (behind own identity s b) n (left .0) (left .1) p)
+      go (unreadable n) p = tt
+      go (unexplained n) p = tt
 
   -- "one joining timer .. explains every entry": accepted exactly if one does, with an invitation timer of any length.
   pub accepts-joining : (u : ℕ) → (answerNumber (judgeOf own identity s) ≡ 0)
