@@ -232,7 +232,8 @@ pub(crate) fn onward(view: View, place: Place, entry: Entry, at: usize) -> Place
     let x = sum(place.x, sum(drawn, strip_of(delta)));
     let joins = is_entered(JOINING, 3, place.state, entry);
     let joining = watched(place.joining, joins, claim.state == JOINING, time);
-    let invites = is_entered(INVITED, 10, place.state, entry) & has_invitation_timer(view.table);
+    let table = view.table;
+    let invites = is_entered(INVITED, 10, place.state, entry) & has_invitation_timer(table);
     let invitation = watched(place.invitation, invites, claim.state == INVITED, time);
     Place {
         at,
