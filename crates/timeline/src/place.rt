@@ -3,6 +3,7 @@ use log::Entry;
 use log::Found;
 use log::read_entry;
 use log_words::entry::asked_from;
+use log_words::has_invitation_timer;
 use timer::Timers;
 use timer::Window;
 use version::Table;
@@ -189,14 +190,6 @@ fn strip_of(delta: u64) -> u64 {
 fn is_entered(state: u8, event: u8, before: u8, entry: Entry) -> bool {
     let claim = entry.claim;
     (entry.event == event) & (claim.answer == 0) & (claim.state == state) & (before != state)
-}
-
-// From the third table on an invitation has a timer.
-pub(crate) fn has_invitation_timer(table: Table) -> bool {
-    match table {
-        Table::First | Table::Second => false,
-        Table::Third => true,
-    }
 }
 
 // An entry that claims the long sixth action beside others has two lines.

@@ -105,49 +105,43 @@ fn draw_tick(descriptor: i32, view: View, y: u64, place: Place, tick: u64) {
 
 // ---- the timers
 
-// What a timer's window is drawn by: where the walk stands, the timer, what is left of it, and the top of its lane.
-struct Hatching {
+// The parts of both windows that lie within the drawn time. `room` is where the lanes are free to.
+fn draw_windows(descriptor: i32, view: View, y: u64, place: Place, time: u64, room: u64) {
+    let invited = lane(y, INVITED);
+    draw_window(
+        descriptor,
+        view.scale,
+        invited,
+        place,
+        place.invitation,
+        view.invitation,
+        time,
+        room,
+    );
+    let joining = lane(y, JOINING);
+    draw_window(
+        descriptor,
+        view.scale,
+        joining,
+        place,
+        place.joining,
+        view.joining,
+        time,
+        room,
+    );
+}
+
+// That of one timer, by what is left of it; `top` is the top of its lane.
+fn draw_window(
+    descriptor: i32,
     scale: u64,
+    top: u64,
     place: Place,
     watch: Watch,
     window: Window,
-    top: u64,
-}
-
-fn joining_of(view: View, y: u64, place: Place) -> Hatching {
-    let watch = place.joining;
-    let window = view.joining;
-    Hatching {
-        scale: view.scale,
-        place,
-        watch,
-        window,
-        top: lane(y, JOINING),
-    }
-}
-
-fn invitation_of(view: View, y: u64, place: Place) -> Hatching {
-    let watch = place.invitation;
-    let window = view.invitation;
-    Hatching {
-        scale: view.scale,
-        place,
-        watch,
-        window,
-        top: lane(y, INVITED),
-    }
-}
-
-// The parts of both windows that lie within the drawn time. `room` is where the lanes are free to.
-fn draw_windows(descriptor: i32, view: View, y: u64, place: Place, time: u64, room: u64) {
-    draw_window(descriptor, invitation_of(view, y, place), time, room);
-    draw_window(descriptor, joining_of(view, y, place), time, room);
-}
-
-fn draw_window(descriptor: i32, hatching: Hatching, time: u64, room: u64) {
-    let place = hatching.place;
-    let watch = hatching.watch;
-    let window = hatching.window;
+    time: u64,
+    room: u64,
+) {
     let from = sum(watch.start, window.least);
     let to = sum(watch.start, window.greatest);
     let end = sum(place.time, time);
@@ -155,18 +149,18 @@ fn draw_window(descriptor: i32, hatching: Hatching, time: u64, room: u64) {
         return;
     }
     let first = greater(from, place.time);
-    let x = sum(place.x, along(hatching.scale, less(first, place.time))) / 1000;
-    let behind = draw_hatched(descriptor, hatching, x, first, smaller(to, end));
-    draw_bounds(descriptor, hatching, sum(behind, 4), room);
+    let x = sum(place.x, along(scale, less(first, place.time))) / 1000;
+    let behind = draw_hatched(descriptor, scale, top, x, first, smaller(to, end));
+    draw_bounds(descriptor, top, sum(behind, 4), room, window);
 }
 
 // The window from a time, which stands at `x`, to a time; answers where it ends along the axis.
-fn draw_hatched(descriptor: i32, hatching: Hatching, x: u64, first: u64, last: u64) -> u64 {
-    let width = greater(3, along(hatching.scale, less(last, first)) / 1000);
+fn draw_hatched(descriptor: i32, scale: u64, top: u64, x: u64, first: u64, last: u64) -> u64 {
+    let width = greater(3, along(scale, less(last, first)) / 1000);
     write_form(
         descriptor,
         b"<rect class=\"window\" x=\"#\" y=\"#\" width=\"#\" height=\"14\" data-from=\"#\" data-to=\"#\"/>\n",
-        &[x, sum(hatching.top, 2), width, first, last],
+        &[x, sum(top, 2), width, first, last],
     );
     sum(x, width)
 }
@@ -178,12 +172,12 @@ fn is_within(seen: bool, time: u64, from: u64, to: u64, end: u64) -> bool {
 }
 
 // `least to greatest ms` behind the window, where there is room for it.
-fn draw_bounds(descriptor: i32, hatching: Hatching, x: u64, room: u64) {
+fn draw_bounds(descriptor: i32, top: u64, x: u64, room: u64, window: Window) {
     if room < sum(x, 108) {
         return;
     }
-    begin_text(descriptor, b"s", x, sum(hatching.top, 13));
-    write_bounds(descriptor, hatching.window);
+    begin_text(descriptor, b"s", x, sum(top, 13));
+    write_bounds(descriptor, window);
     end_text(descriptor);
 }
 
@@ -196,12 +190,14 @@ pub(crate) fn write_bounds(descriptor: i32, window: Window) {
 }
 
 // An invitation timer that ends exactly where a strip does: the time before it is not drawn, so it is drawn at the strip's end.
-fn draw_end(descriptor: i32, hatching: Hatching, after: Place) {
-    let watch = hatching.watch;
-    let window = hatching.window;
+fn draw_end(descriptor: i32, view: View, y: u64, before: Place, after: Place) {
+    let watch = before.invitation;
+    let window = view.invitation;
     let ends = sum(watch.start, window.least) == after.time;
     if watch.running & ends & (window.least == window.greatest) {
-        draw_hatched(descriptor, hatching, after.x / 1000, after.time, after.time);
+        let top = lane(y, INVITED);
+        let x = after.x / 1000;
+        draw_hatched(descriptor, view.scale, top, x, after.time, after.time);
     }
 }
 
@@ -253,7 +249,7 @@ pub(crate) fn draw_segment(
     }
     draw_windows(descriptor, view, y, before, time, less(end, STRIP));
     draw_strip(descriptor, y, end, delta);
-    draw_end(descriptor, invitation_of(view, y, before), after);
+    draw_end(descriptor, view, y, before, after);
 }
 
 // How many milliseconds so many thousandths of a unit are.
