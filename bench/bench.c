@@ -9,8 +9,8 @@
 
 enum { ROUNDS = 101 };
 
-/* Logs of the newest version, their copies with the last entry spoilt or cut short, and logs of version 1. */
-static struct logs logs, spoilt, cut, old;
+/* Logs of the newest version, their copies with the last entry spoilt or cut short, and logs of the older versions. */
+static struct logs logs, spoilt, cut, second, first;
 static volatile size_t sink;
 
 /* What is timed: one pass over all that it has. */
@@ -89,15 +89,36 @@ static void differ(const char *what, size_t place)
 
 static bool alike(const struct heidezirkel_judgement *ours, const struct heidezirkel_judgement *twin)
 {
-    return ours->answer == twin->answer && ours->entry == twin->entry && ours->least_ms == twin->least_ms && ours->greatest_ms == twin->greatest_ms;
+    return ours->answer == twin->answer && ours->entry == twin->entry && ours->least_ms == twin->least_ms && ours->greatest_ms == twin->greatest_ms
+        && ours->invitation_least_ms == twin->invitation_least_ms && ours->invitation_greatest_ms == twin->invitation_greatest_ms;
+}
+
+/* How many accepted logs were compared by what they leave of a timer: any length, those from one on (the timer was seen running), or one (its expiry was). */
+enum { ANY_LENGTH, FROM_ONE_ON, ONE_LENGTH, LEAVINGS };
+static size_t joinings[LEAVINGS], invitations[LEAVINGS];
+
+static void count_left(size_t counts[LEAVINGS], uint32_t least, uint32_t greatest, uint32_t least_of_all)
+{
+    counts[least == greatest ? ONE_LENGTH : least > least_of_all ? FROM_ONE_ON : ANY_LENGTH]++;
+}
+
+static struct heidezirkel_judgement both_judge(const char *what, size_t place, const uint8_t *log, size_t length)
+{
+    struct heidezirkel_judgement ours = heidezirkel_judge(bench_settings, log, length);
+    struct heidezirkel_judgement twin = twin_judge(bench_settings, log, length);
+    if (!alike(&ours, &twin))
+        differ(what, place);
+    if (twin.answer == HEIDEZIRKEL_TAKEN) {
+        count_left(joinings, twin.least_ms, twin.greatest_ms, 10000);
+        if (log[0] == THIRD)
+            count_left(invitations, twin.invitation_least_ms, twin.invitation_greatest_ms, 1000);
+    }
+    return twin;
 }
 
 static void same_judgement(const char *what, size_t place, const struct log *log, uint32_t wanted)
 {
-    struct heidezirkel_judgement ours = heidezirkel_judge(bench_settings, log->bytes, log->used);
-    struct heidezirkel_judgement twin = twin_judge(bench_settings, log->bytes, log->used);
-    if (!alike(&ours, &twin))
-        differ(what, place);
+    struct heidezirkel_judgement twin = both_judge(what, place, log->bytes, log->used);
     if (twin.answer != wanted) {
         printf("%s, number %zu: answer %u at entry %zu, and %u is wanted\n", what, place, twin.answer, twin.entry, wanted);
         differences++;
@@ -111,18 +132,24 @@ static void same_judgements(const struct logs *of, const char *what, uint32_t wa
         same_judgement(what, i + 1, &of->small[i], wanted);
 }
 
-/* The logs of each version under the number of the other: any answer, but the same. */
-static void same_under_number(const struct logs *of, enum twin_table table)
+/* The logs of each version under the numbers of the others, and under some that no version has: any answer, but the same. */
+static void same_under_numbers(const struct logs *of)
 {
     static struct log log;
     for (size_t i = 0; i < of->smalls; i++) {
         log = of->small[i];
-        log.bytes[0] = table;
-        struct heidezirkel_judgement ours = heidezirkel_judge(bench_settings, log.bytes, log.used);
-        struct heidezirkel_judgement twin = twin_judge(bench_settings, log.bytes, log.used);
-        if (!alike(&ours, &twin))
-            differ("a log under the number of another version", i + 1);
+        for (int number = 0; number <= NEWEST + 1; number++) {
+            log.bytes[0] = number;
+            both_judge("a log under the number of another version", i + 1, log.bytes, log.used);
+        }
     }
+}
+
+/* A small log up to each of its bytes: any answer, but the same. */
+static void same_when_cut(const struct log *log)
+{
+    for (size_t length = 0; length < log->used; length++)
+        both_judge("a log cut off, at byte", length, log->bytes, length);
 }
 
 /* Each byte of a small log changed in turn: any answer, but the same. */
@@ -134,17 +161,24 @@ static void same_when_changed(const struct log *unchanged)
         uint8_t kept = log.bytes[i];
         for (int bit = 0; bit < 8; bit++) {
             log.bytes[i] = kept ^ (1 << bit);
-            struct heidezirkel_judgement ours = heidezirkel_judge(bench_settings, log.bytes, log.used);
-            struct heidezirkel_judgement twin = twin_judge(bench_settings, log.bytes, log.used);
-            if (!alike(&ours, &twin))
-                differ("a log with one bit changed, at byte", i);
+            both_judge("a log with one bit changed, at byte", i, log.bytes, log.used);
         }
         log.bytes[i] = kept;
     }
 }
 
-/* How many steps were compared with each reason, 0 to 6. */
-static size_t reasons[7];
+static void all_left(const char *timer, const size_t counts[LEAVINGS])
+{
+    static const char *const words[LEAVINGS] = {"any length", "the lengths from one on", "one length"};
+    for (int left = 0; left < LEAVINGS; left++)
+        if (counts[left] == 0) {
+            printf("no log leaves %s of the %s timer\n", words[left], timer);
+            differences++;
+        }
+}
+
+/* How many steps were compared with each answer, 0 to 7, and with each reason, 0 to 6. */
+static size_t answers[8], reasons[7];
 
 static void same_step(const char *what, size_t place, const struct step_case *at)
 {
@@ -156,7 +190,19 @@ static void same_step(const char *what, size_t place, const struct step_case *at
     if (ours.answer != twin.answer || ours.reason != twin.reason || ours.actions != twin.actions || ours.reply_length != twin.reply_length
         || memcmp(ours_context, twin_context, 16) != 0 || memcmp(ours_reply, twin_reply, 255) != 0)
         differ(what, place);
+    answers[twin.answer]++;
     reasons[twin.reason]++;
+}
+
+/* A context that may be none, or not fit: each of its bits changed in turn. */
+static void same_when_unfit(size_t place, struct step_case other)
+{
+    for (size_t octet = 0; octet < 16; octet++)
+        for (int bit = 0; bit < 8; bit++) {
+            other.context[octet] ^= 1 << bit;
+            same_step("a step whose context has one bit changed", place, &other);
+            other.context[octet] ^= 1 << bit;
+        }
 }
 
 /* A message of another protocol or another call: each bit of its first octet changed in turn. Then with no octet and with one. */
@@ -175,8 +221,13 @@ static void same_steps(void)
 {
     for (size_t i = 0; i < logs.step_count; i++) {
         same_step("a step", i, &logs.steps[i]);
+        same_when_unfit(i, logs.steps[i]);
         if (logs.steps[i].event.number == 18)
             same_when_misheard(i, logs.steps[i]);
+    }
+    if (answers[HEIDEZIRKEL_NO_CONTEXT] == 0) {
+        printf("no step has a context that is not fit\n");
+        differences++;
     }
     for (int reason = 1; reason <= 6; reason++)
         if (reasons[reason] == 0) {
@@ -290,7 +341,8 @@ static void show_all(double least)
     printf("%-40s %8s %8s  %-10s %6s\n", "", "ours", "twin", "", "ratio");
     show_judge("judge, 4 KiB, true", logs.small, logs.smalls, least);
     double large = show_judge("judge, 64 KiB, true", &logs.large, 1, least);
-    show_judge("judge, 64 KiB, version 1, true", &old.large, 1, least);
+    show_judge("judge, 64 KiB, version 2, true", &second.large, 1, least);
+    show_judge("judge, 64 KiB, version 1, true", &first.large, 1, least);
     show_judge("judge, 4 KiB, last entry unexplained", spoilt.small, spoilt.smalls, least);
     double last = show_judge("judge, 64 KiB, last entry unexplained", &spoilt.large, 1, least);
     show_judge("judge, 4 KiB, last entry unreadable", cut.small, cut.smalls, least);
@@ -330,7 +382,8 @@ static int count_one(const char *what, long passes)
 int main(int argc, char **argv)
 {
     make_logs(&logs, NEWEST);
-    make_logs(&old, FIRST);
+    make_logs(&second, SECOND);
+    make_logs(&first, FIRST);
     if (argc > 2)
         return count_one(argv[1], atol(argv[2]));
     spoil(&spoilt, spoil_claim);
@@ -341,11 +394,16 @@ int main(int argc, char **argv)
     same_judgements(&logs, "true log", HEIDEZIRKEL_TAKEN);
     same_judgements(&spoilt, "log with its last claim changed", HEIDEZIRKEL_UNEXPLAINED);
     same_judgements(&cut, "log cut short", HEIDEZIRKEL_UNREADABLE_LOG);
-    same_judgements(&old, "true log of version 1", HEIDEZIRKEL_TAKEN);
-    same_under_number(&old, NEWEST);
-    same_under_number(&logs, FIRST);
-    same_when_changed(&logs.small[0]);
-    same_when_changed(&old.small[0]);
+    same_judgements(&second, "true log of version 2", HEIDEZIRKEL_TAKEN);
+    same_judgements(&first, "true log of version 1", HEIDEZIRKEL_TAKEN);
+    const struct logs *const versions[] = {&first, &second, &logs};
+    for (size_t i = 0; i < sizeof versions / sizeof *versions; i++) {
+        same_under_numbers(versions[i]);
+        same_when_cut(&versions[i]->small[0]);
+        same_when_changed(&versions[i]->small[0]);
+    }
+    all_left("joining", joinings);
+    all_left("invitation", invitations);
     same_steps();
     same_numbers();
     if (differences > 0) {

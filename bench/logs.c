@@ -1,12 +1,14 @@
-/* logs.c: makes the logs that the bench judges, with the twin's step and recorder: calls that we start and calls that we join, with messages of
+/* logs.c: makes the logs that the bench judges, with the twin's step and recorder: calls that we start and calls that we join or let pass, with messages of
  * every kind that a radio hears, good and faulty, expiries, and events that have no step. A fixed seed: every run has the same logs. */
 #include <string.h>
 #include "logs.h"
 
-/* Key 5, a classmark and an identity of 5 octets. */
-const uint8_t bench_settings[13] = {5, 0x33, 0x19, 0xa2, 5, 0x29, 0x43, 0x65, 0x87, 0x09};
+enum { JOINING_MS = 17000, INVITATION_MS = 45000 };
 
-enum { JOINING_MS = 17000 };
+#define OCTETS(number) (number) % 256, (number) / 256 % 256, (number) / 65536 % 256, 0
+
+/* Key 5, a classmark, an identity of 5 octets, and the two timers. */
+const uint8_t bench_settings[21] = {5, 0x33, 0x19, 0xa2, 5, 0x29, 0x43, 0x65, 0x87, 0x09, 0, 0, 0, OCTETS(JOINING_MS), OCTETS(INVITATION_MS)};
 
 /* A radio while its log is made: the call, the time, and when the timer that runs was started. */
 struct radio {
@@ -226,11 +228,13 @@ static void in_u5(struct radio *radio, struct happening *happening, uint32_t die
 
 static void in_u3_or_u4(struct radio *radio, struct happening *happening, uint32_t die)
 {
-    uint32_t onward = radio->context.state == U3 ? 3 : 11;
-    if (die < 80)
-        plain(happening, onward);
+    bool present = radio->context.state == U3;
+    if (die < 15 && present && radio->table == THIRD)
+        plain(happening, 19);
+    else if (die < 80)
+        plain(happening, present ? 3 : 11);
     else if (die < 85)
-        plain(happening, radio->context.state == U3 ? 9 : 16);
+        plain(happening, present ? 9 : 16);
     else if (die < 90)
         with_cause(radio, happening, 0x34);
     else if (die < 95)
@@ -257,11 +261,18 @@ static void in_u6(struct radio *radio, struct happening *happening, uint32_t die
         plain(happening, die < 98 ? 5 : 9);
 }
 
+/* Any event of the table but a message. */
+static void any_event(struct radio *radio, struct happening *happening)
+{
+    uint32_t number = 1 + chance(radio, twin_greatest_event(radio->table) - 1);
+    with_call(radio, happening, number < 18 ? number : 19);
+}
+
 static void choose(struct radio *radio, struct happening *happening)
 {
     uint32_t die = chance(radio, 100);
     if (chance(radio, 16) == 0) {
-        with_call(radio, happening, 1 + chance(radio, 17));
+        any_event(radio, happening);
         return;
     }
     switch (radio->context.state) {
@@ -291,14 +302,16 @@ static void choose(struct radio *radio, struct happening *happening)
 /* When it happens: at the end of the timer whose expiry it is, and else before the end of the timer that runs. */
 static void set_time(struct radio *radio, struct happening *happening)
 {
-    static const uint32_t lengths[5] = {0, 5000, 10000, JOINING_MS, 3000};
+    static const struct {
+        uint32_t length, expiry;
+    } timers[6] = {{0, 0}, {5000, 14}, {10000, 15}, {JOINING_MS, 16}, {3000, 17}, {INVITATION_MS, 19}};
     enum twin_timer timer = twin_running(&radio->context);
     if (timer == NO_TIMER) {
         happening->delta = chance(radio, 20) == 0 ? chance(radio, 3600000) : chance(radio, 9000);
         return;
     }
-    uint32_t left = lengths[timer] - (uint32_t)(radio->now - radio->started);
-    bool expires = happening->event.number == 13u + timer;
+    uint32_t left = timers[timer].length - (uint32_t)(radio->now - radio->started);
+    bool expires = happening->event.number == timers[timer].expiry;
     happening->delta = expires ? left : chance(radio, left / 2 + 1);
 }
 
@@ -307,7 +320,7 @@ static void pack(const struct twin_context *context, uint8_t octets[16])
     memset(octets, 0, 16);
     octets[0] = context->state;
     octets[1] = twin_parameters(context);
-    octets[2] = 8 * context->mm_est + 4 * context->term + 2 * context->conn_req + context->no_channel;
+    octets[2] = 16 * context->pres + 8 * context->mm_est + 4 * context->term + 2 * context->conn_req + context->no_channel;
     octets[3] = context->value;
     memcpy(octets + 4, context->reference, 4);
     octets[8] = context->from;

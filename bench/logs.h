@@ -27,7 +27,7 @@ struct logs {
     struct log numbers;            /* numbers of one to five bytes, no log */
 };
 
-extern const uint8_t bench_settings[13];
+extern const uint8_t bench_settings[21];
 void make_logs(struct logs *logs, enum twin_table table);
 /* A log's copy whose last entry claims another state, or lacks its last byte. */
 void spoil_claim(struct log *log);

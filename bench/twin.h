@@ -9,16 +9,17 @@
 
 enum twin_state { U0, U0P, U1, U2, U3, U4, U5, U6 };
 
-/* The step tables by the versions of their logs: document 01's, and that of document 02, A2, in which a rejected termination leads back. */
-enum twin_table { FIRST = 1, SECOND = 2, NEWEST = SECOND };
+/* The step tables by the versions of their logs: document 01's, and those of document 02: A2, in which a rejected termination leads back, and A13, in which
+ * an invitation runs out. */
+enum twin_table { FIRST = 1, SECOND = 2, THIRD = 3, NEWEST = THIRD };
 
 /* The timers; NO_TIMER where none runs. In a fit context at most one runs. */
-enum twin_timer { NO_TIMER, T_MM_EST, T_TERM, T_CONN_REQ, T_NO_CHANNEL };
+enum twin_timer { NO_TIMER, T_MM_EST, T_TERM, T_CONN_REQ, T_NO_CHANNEL, T_PRES };
 
 struct twin_context {
     enum twin_state state;
     bool orig, comm, datt, uatt;
-    bool mm_est, term, conn_req, no_channel;
+    bool mm_est, term, conn_req, no_channel, pres;
     uint8_t value;
     uint8_t reference[4];
     enum twin_state from; /* the state that the termination was asked from, U0 for none */
@@ -31,19 +32,20 @@ struct twin_own {
     uint8_t identity[8];
 };
 
-struct twin_own twin_read_own(const uint8_t settings[13]);
+struct twin_own twin_read_own(const uint8_t settings[21]);
 bool twin_own_in_range(const struct twin_own *own);
 int twin_parameters(const struct twin_context *context);
 enum twin_timer twin_running(const struct twin_context *context);
+uint32_t twin_greatest_event(enum twin_table table);
 
 /* The step by a table over a context in its own form, which the judge uses, and by the newest over 16 octets, as the host has it. */
 struct heidezirkel_step twin_take(enum twin_table table, struct twin_context *context, const struct twin_own *own,
     const struct heidezirkel_event *event, const uint8_t *message, size_t length, uint8_t *reply, size_t room);
-struct heidezirkel_step twin_step(uint8_t context[16], const uint8_t settings[13], struct heidezirkel_event event,
+struct heidezirkel_step twin_step(uint8_t context[16], const uint8_t settings[21], struct heidezirkel_event event,
     const uint8_t *message, size_t length, uint8_t *reply, size_t room);
 
 struct heidezirkel_number twin_read_number(const uint8_t *octets, size_t length, size_t at);
-struct heidezirkel_judgement twin_judge(const uint8_t settings[13], const uint8_t *log, size_t length);
+struct heidezirkel_judgement twin_judge(const uint8_t settings[21], const uint8_t *log, size_t length);
 
 /* Writes the entry of a step by a table behind `used` bytes, and gives the bytes used then. There is room. */
 size_t twin_record(enum twin_table table, uint8_t *log, size_t used, uint32_t delta, const struct heidezirkel_event *event, const uint8_t *message,

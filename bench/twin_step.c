@@ -38,7 +38,7 @@ static const bool start_rows[8][4] = {
     {false, false, true, false},
 };
 
-struct twin_own twin_read_own(const uint8_t settings[13])
+struct twin_own twin_read_own(const uint8_t settings[21])
 {
     struct twin_own own;
     own.key = settings[0];
@@ -68,7 +68,14 @@ enum twin_timer twin_running(const struct twin_context *context)
         return T_CONN_REQ;
     if (context->no_channel)
         return T_NO_CHANNEL;
+    if (context->pres)
+        return T_PRES;
     return NO_TIMER;
+}
+
+uint32_t twin_greatest_event(enum twin_table table)
+{
+    return table == THIRD ? 19 : 18;
 }
 
 /* 6.1.2.1.11 */
@@ -107,6 +114,8 @@ static bool is_fit(enum twin_table table, const struct twin_context *context)
     if (context->conn_req != (context->state == U4))
         return false;
     if (context->no_channel && context->state != U6)
+        return false;
+    if (context->pres != (table == THIRD && context->state == U3))
         return false;
     if (context->state == U0) {
         if (context->orig || context->datt || context->uatt || context->value != 0)
@@ -397,7 +406,8 @@ static struct heidezirkel_step hear(enum twin_table table, struct twin_context *
     }
 }
 
-static struct heidezirkel_step in_u0(struct twin_context *context, const struct twin_own *own, const struct heidezirkel_event *event, uint8_t *reply)
+static struct heidezirkel_step in_u0(enum twin_table table, struct twin_context *context, const struct twin_own *own,
+    const struct heidezirkel_event *event, uint8_t *reply)
 {
     switch (event->number) {
     case 1:
@@ -413,6 +423,7 @@ static struct heidezirkel_step in_u0(struct twin_context *context, const struct 
     case 10:
         enter(context, U3);
         store(context, event);
+        context->pres = table == THIRD;
         return taken(INFORM, 0);
     default:
         return answer(HEIDEZIRKEL_NO_STEP);
@@ -445,6 +456,22 @@ static struct heidezirkel_step terminate(enum twin_table table, struct twin_cont
     return taken(0, put_reference(context, reply, TERMINATION_REQUEST));
 }
 
+/* T_pres runs here by the third table alone, which alone has its expiry. */
+static struct heidezirkel_step in_u3(struct twin_context *context, uint32_t event)
+{
+    switch (event) {
+    case 3:
+        context->pres = false;
+        context->conn_req = true;
+        enter(context, U4);
+        return taken(REQUEST_GROUP_RECEIVE, 0);
+    case 19:
+        return end_call(context, 0);
+    default:
+        return answer(HEIDEZIRKEL_NO_STEP);
+    }
+}
+
 static struct heidezirkel_step in_u6(struct twin_context *context, uint32_t event)
 {
     switch (event) {
@@ -466,7 +493,7 @@ static struct heidezirkel_step happen(enum twin_table table, struct twin_context
 {
     uint32_t number = event->number;
     if (context->state == U0)
-        return in_u0(context, own, event, reply);
+        return in_u0(table, context, own, event, reply);
     if (number == 5)
         return end_call(context, RELEASE);
     if (number == 9)
@@ -489,11 +516,7 @@ static struct heidezirkel_step happen(enum twin_table table, struct twin_context
     case U2:
         return number == 4 ? terminate(table, context, reply) : answer(HEIDEZIRKEL_NO_STEP);
     case U3:
-        if (number != 3)
-            return answer(HEIDEZIRKEL_NO_STEP);
-        context->conn_req = true;
-        enter(context, U4);
-        return taken(REQUEST_GROUP_RECEIVE, 0);
+        return in_u3(context, number);
     case U4:
         if (number == 11) {
             context->conn_req = false;
@@ -508,7 +531,7 @@ static struct heidezirkel_step happen(enum twin_table table, struct twin_context
     }
 }
 
-static bool event_in_range(const struct heidezirkel_event *event)
+static bool event_in_range(enum twin_table table, const struct heidezirkel_event *event)
 {
     switch (event->number) {
     case 1:
@@ -518,7 +541,7 @@ static bool event_in_range(const struct heidezirkel_event *event)
     case 18:
         return event->mode <= 1;
     default:
-        return event->number >= 1 && event->number <= 18;
+        return event->number >= 1 && event->number <= twin_greatest_event(table);
     }
 }
 
@@ -531,7 +554,7 @@ struct heidezirkel_step twin_take(enum twin_table table, struct twin_context *co
         return answer(HEIDEZIRKEL_SHORT_BUFFER);
     if (event->number == 18 && length > 251)
         return answer(HEIDEZIRKEL_LONG_MESSAGE);
-    if (!twin_own_in_range(own) || !event_in_range(event))
+    if (!twin_own_in_range(own) || !event_in_range(table, event))
         return answer(HEIDEZIRKEL_OUT_OF_RANGE);
     if (event->number == 18)
         return hear(table, context, own, event->mode, message, length, reply);
@@ -540,7 +563,7 @@ struct heidezirkel_step twin_take(enum twin_table table, struct twin_context *co
 
 static bool read_context(const uint8_t octets[16], struct twin_context *context)
 {
-    if (octets[0] > 7 || octets[1] > 15 || octets[2] > 15)
+    if (octets[0] > 7 || octets[1] > 15 || octets[2] > 31)
         return false;
     if (octets[8] != U0 && octets[8] != U1 && octets[8] != U2)
         return false;
@@ -553,6 +576,7 @@ static bool read_context(const uint8_t octets[16], struct twin_context *context)
     context->comm = octets[1] & 4;
     context->datt = octets[1] & 2;
     context->uatt = octets[1] & 1;
+    context->pres = octets[2] & 16;
     context->mm_est = octets[2] & 8;
     context->term = octets[2] & 4;
     context->conn_req = octets[2] & 2;
@@ -566,13 +590,13 @@ static void write_context(const struct twin_context *context, uint8_t octets[16]
 {
     octets[0] = context->state;
     octets[1] = twin_parameters(context);
-    octets[2] = 8 * context->mm_est + 4 * context->term + 2 * context->conn_req + context->no_channel;
+    octets[2] = 16 * context->pres + 8 * context->mm_est + 4 * context->term + 2 * context->conn_req + context->no_channel;
     octets[3] = context->value;
     memcpy(octets + 4, context->reference, 4);
     octets[8] = context->from;
 }
 
-struct heidezirkel_step twin_step(uint8_t octets[16], const uint8_t settings[13], struct heidezirkel_event event, const uint8_t *message,
+struct heidezirkel_step twin_step(uint8_t octets[16], const uint8_t settings[21], struct heidezirkel_event event, const uint8_t *message,
     size_t length, uint8_t *reply, size_t room)
 {
     struct twin_context context;

@@ -1,4 +1,4 @@
-/* host: a small example host over libcontroller.a, to read and to begin from. It has no radio: what happens outside stands in three short stories, and the clock
+/* host: a small example host over libcontroller.a, to read and to begin from. It has no radio: what happens outside stands in four short stories, and the clock
  * is simulated. Everything else is what a firmware does: settings read, a context kept, each event told, actions carried out, timers kept, a log recorded.
  *
  *     host SETTINGS [LOG]      lives through the stories, judges its own log, and writes it to the file LOG
@@ -8,13 +8,15 @@
 #include <stdlib.h>
 #include <string.h>
 
-/* The four timers, by their bits in octet 2 of the context. The joining timer's length is a setting. */
+/* The five timers, by their bits in octet 2 of the context. The lengths of the joining timer and of the invitation timer are settings. */
+enum { TIMERS = 5 };
 static const struct timer {
     uint8_t bit;
     const char *name;
-    uint32_t length_ms;
-    uint32_t expiry; /* the event to tell */
-} timers[4] = {
+    uint32_t length_ms; /* 0 for a setting */
+    uint32_t expiry;    /* the event to tell */
+} timers[TIMERS] = {
+    {HEIDEZIRKEL_T_PRES, "T_pres", 0, HEIDEZIRKEL_EVENT_PRES_EXPIRED},
     {HEIDEZIRKEL_T_MM_EST, "T_MM-est", 5000, HEIDEZIRKEL_EVENT_MM_EST_EXPIRED},
     {HEIDEZIRKEL_T_TERM, "T_term", 10000, HEIDEZIRKEL_EVENT_TERM_EXPIRED},
     {HEIDEZIRKEL_T_CONN_REQ, "T_conn req", 0, HEIDEZIRKEL_EVENT_CONN_REQ_EXPIRED},
@@ -25,8 +27,9 @@ struct host {
     uint8_t settings[HEIDEZIRKEL_SETTINGS_OCTETS]; /* begins as zeros: then every step is refused until settings are read */
     uint8_t context[HEIDEZIRKEL_CONTEXT_OCTETS];
     uint32_t joining_ms;
+    uint32_t invitation_ms;
     uint64_t now_ms;
-    uint64_t deadline_ms[4]; /* when each timer that runs has run its length */
+    uint64_t deadline_ms[TIMERS]; /* when each timer that runs has run its length */
     uint8_t log[HEIDEZIRKEL_LOG_OCTETS];
     size_t used;
     uint64_t recorded_ms; /* the time of the log's last entry */
@@ -42,7 +45,7 @@ static const char *const reason_words[] = {
 static const char *const event_words[] = {
     "", "set-up request", "immediate set-up request", "join", "terminate", "release", "MM connection established", "MM establishment failed",
     "radio link failure", "abort or release detected", "broadcast notified", "group receive mode entered", "no channel", "channel available",
-    "T_MM-est expired", "T_term expired", "T_conn req expired", "T_no channel expired", "message received",
+    "T_MM-est expired", "T_term expired", "T_conn req expired", "T_no channel expired", "message received", "T_pres expired",
 };
 static const char *const action_words[] = {
     "inform higher layers", "request an MM connection", "request group receive mode", "abort", "release", "the MM connection exists",
@@ -71,15 +74,29 @@ static void carry_out(const uint8_t before[16], const uint8_t after[16], struct 
         printf("; send %zu octets", step.reply_length);
     if ((before[1] ^ after[1]) & HEIDEZIRKEL_D_ATT)
         printf("; loudspeaker %s", after[1] & HEIDEZIRKEL_D_ATT ? "on" : "off");
+    /* The expiry of T_pres has no action: what the crew sees follows the state. */
+    if ((before[0] == HEIDEZIRKEL_U3) != (after[0] == HEIDEZIRKEL_U3))
+        printf("; invitation %s", after[0] == HEIDEZIRKEL_U3 ? "shown" : "taken away");
+}
+
+static uint32_t length_of(const struct host *host, const struct timer *timer) {
+    switch (timer->bit) {
+    case HEIDEZIRKEL_T_PRES:
+        return host->invitation_ms;
+    case HEIDEZIRKEL_T_CONN_REQ:
+        return host->joining_ms;
+    default:
+        return timer->length_ms;
+    }
 }
 
 /* A bit that became set starts its timer; one that was cleared stops it; one that stayed leaves it alone. */
 static void keep_timers(struct host *host, uint8_t before) {
     uint8_t after = host->context[2];
-    for (size_t i = 0; i < 4; i++) {
+    for (size_t i = 0; i < TIMERS; i++) {
         uint8_t bit = timers[i].bit;
         if (!(before & bit) && (after & bit)) {
-            uint32_t length = bit == HEIDEZIRKEL_T_CONN_REQ ? host->joining_ms : timers[i].length_ms;
+            uint32_t length = length_of(host, &timers[i]);
             host->deadline_ms[i] = host->now_ms + length;
             printf("; %s starts (%u ms)", timers[i].name, length);
         } else if ((before & bit) && !(after & bit))
@@ -113,7 +130,7 @@ static void tell(struct host *host, struct heidezirkel_event event, const uint8_
 /* The timer that runs out first of those that run; NULL where none runs. */
 static const struct timer *next_timer(const struct host *host) {
     const struct timer *next = NULL;
-    for (size_t i = 0; i < 4; i++)
+    for (size_t i = 0; i < TIMERS; i++)
         if ((host->context[2] & timers[i].bit) && (!next || host->deadline_ms[i] < host->deadline_ms[next - timers]))
             next = &timers[i];
     return next;
@@ -165,6 +182,10 @@ static const struct happening not_let_in[] = {
     {303000, {.number = HEIDEZIRKEL_EVENT_JOIN}, 0, {0}},
 };
 
+static const struct happening forgotten[] = {
+    {400000, CALL(4), 0, {0}},
+};
+
 static void live(struct host *host, const char *title, const struct happening *story, size_t count, uint64_t end_ms) {
     printf("\n%s\n", title);
     for (size_t i = 0; i < count; i++) {
@@ -177,7 +198,7 @@ static void live(struct host *host, const char *title, const struct happening *s
 /* ---- The whole ---- */
 
 static void read_settings(struct host *host, const char *name) {
-    uint8_t bytes[256]; /* a fit file has at most 68 bytes */
+    uint8_t bytes[256]; /* a fit file has at most 86 bytes */
     FILE *file = fopen(name, "rb");
     if (!file)
         fail("the settings file can't be opened");
@@ -189,7 +210,8 @@ static void read_settings(struct host *host, const char *name) {
         exit(1);
     }
     host->joining_ms = read.joining_ms;
-    printf("settings: joining timer %u ms\n", read.joining_ms);
+    host->invitation_ms = read.invitation_ms;
+    printf("settings: joining timer %u ms, invitation timer %u ms\n", read.joining_ms, read.invitation_ms);
 }
 
 static void judge(const struct host *host) {
@@ -198,8 +220,8 @@ static void judge(const struct host *host) {
         printf("\nlog: refused with %u at entry %zu\n", judged.answer, judged.entry);
         exit(1);
     }
-    printf("\nlog: %zu bytes, accepted: %zu entries, joining timer %u to %u ms\n", host->used, judged.entry, judged.least_ms,
-        judged.greatest_ms);
+    printf("\nlog: %zu bytes, accepted: %zu entries, joining timer %u to %u ms, invitation timer %u to %u ms\n", host->used, judged.entry,
+        judged.least_ms, judged.greatest_ms, judged.invitation_least_ms, judged.invitation_greatest_ms);
 }
 
 static void write_log(const struct host *host, const char *name) {
@@ -220,6 +242,7 @@ int main(int count, char **words) {
     live(&host, "a warning that is heard to its end", heard, sizeof heard / sizeof heard[0], 150000);
     live(&host, "a warning whose channel is lost", lost, sizeof lost / sizeof lost[0], 250000);
     live(&host, "a warning that nobody lets us join", not_let_in, sizeof not_let_in / sizeof not_let_in[0], 350000);
+    live(&host, "a warning that the crew does not take", forgotten, sizeof forgotten / sizeof forgotten[0], 500000);
     judge(&host);
     if (count == 3)
         write_log(&host, words[2]);

@@ -6,7 +6,8 @@
  *
  * HOW A HOST USES IT
  *
- *   1. Once: keep HEIDEZIRKEL_SETTINGS_OCTETS octets that begin as zeros, and fill them with heidezirkel_read_settings. Keep joining_ms too.
+ *   1. Once: keep HEIDEZIRKEL_SETTINGS_OCTETS octets that begin as zeros, and fill them with heidezirkel_read_settings. Keep joining_ms and
+ *      invitation_ms too.
  *   2. Once: keep HEIDEZIRKEL_CONTEXT_OCTETS octets, and clear them with heidezirkel_clear. This is the one context of the radio's one call.
  *   3. At each event: call heidezirkel_step. Carry out the actions that it gives, send the reply if it has octets, and look at the timers (below).
  *   4. If a log is wanted: heidezirkel_begin_log once, heidezirkel_record after each step, whatever its answer 0 to 3.
@@ -21,19 +22,22 @@
  * where its length is 0, and points to at least as many octets as its length says. A buffer that a call may change (a pointer to uint8_t that is not
  * const) overlaps no other buffer of the same call.
  *
- * TIMERS. The host keeps them. Octet 2 of the context says which of the four run. Compare it before and after each step:
+ * TIMERS. The host keeps them. Octet 2 of the context says which of the five run. Compare it before and after each step:
  *   a bit that became set starts that timer, anew, with its whole length;
  *   a bit that was cleared stops it;
  *   a bit that stayed, set or clear, changes nothing: a timer that runs goes on with what is left of it.
  * When a timer has run its length, tell the event of its expiry, at once: a log in which an expiry comes late is not explained by the timer.
  *
  *   bit of octet 2                     length           event of its expiry
+ *   HEIDEZIRKEL_T_PRES       16        invitation_ms    HEIDEZIRKEL_EVENT_PRES_EXPIRED        19
  *   HEIDEZIRKEL_T_MM_EST      8         5,000 ms        HEIDEZIRKEL_EVENT_MM_EST_EXPIRED      14
  *   HEIDEZIRKEL_T_TERM        4        10,000 ms        HEIDEZIRKEL_EVENT_TERM_EXPIRED        15
  *   HEIDEZIRKEL_T_CONN_REQ    2        joining_ms       HEIDEZIRKEL_EVENT_CONN_REQ_EXPIRED    16
  *   HEIDEZIRKEL_T_NO_CHANNEL  1         3,000 ms        HEIDEZIRKEL_EVENT_NO_CHANNEL_EXPIRED  17
  *
- * At most one of them runs in a fit context.
+ * At most one of them runs in a fit context. T_conn req is the joining timer. T_pres is the invitation timer: it runs as long as a call is notified and
+ * not joined, in U3, so that no invitation stands for a day after its call has ended. Its expiry has no action: that the state is U0 again says that the
+ * invitation is forgotten.
  */
 #ifndef HEIDEZIRKEL_H
 #define HEIDEZIRKEL_H
@@ -55,7 +59,7 @@ enum {
     HEIDEZIRKEL_LONG_MESSAGE = 6,      /* the received message is over 251 octets */
     HEIDEZIRKEL_NO_CONTEXT = 7,        /* the context is not fit, or no context at all: clear it */
     HEIDEZIRKEL_UNREADABLE_LOG = 8,    /* the log can't be read, with the entry's number */
-    HEIDEZIRKEL_UNEXPLAINED = 9,       /* up to an entry no joining timer explains the log, with the entry's number */
+    HEIDEZIRKEL_UNEXPLAINED = 9,       /* up to an entry no joining and invitation timers explain the log, with the entry's number */
     HEIDEZIRKEL_LONG_LOG = 10,         /* the log is over 65,536 bytes, or would be */
     HEIDEZIRKEL_NO_ROOM = 11,          /* no room for the entry in the log's buffer */
     HEIDEZIRKEL_SETTINGS_REFUSED = 12, /* the settings file is refused, with the line's number */
@@ -63,7 +67,7 @@ enum {
 };
 
 #define HEIDEZIRKEL_CONTEXT_OCTETS 16
-#define HEIDEZIRKEL_SETTINGS_OCTETS 13
+#define HEIDEZIRKEL_SETTINGS_OCTETS 21
 #define HEIDEZIRKEL_REPLY_OCTETS 255   /* the shortest buffer that may be lent for a reply or for a message to be written */
 #define HEIDEZIRKEL_MESSAGE_OCTETS 251 /* the longest message, received or sent */
 #define HEIDEZIRKEL_LOG_OCTETS 65536   /* the longest log */
@@ -75,15 +79,19 @@ enum {
  *   octet    what it is
  *   0        state, HEIDEZIRKEL_U0 to HEIDEZIRKEL_U6
  *   1        parameters that are true, added up: 8 ORIG, 4 COMM, 2 D-ATT, 1 U-ATT
- *   2        timers that run, added up: 8 T_MM-est, 4 T_term, 2 T_conn req, 1 T_no channel
+ *   2        timers that run, added up: 16 T_pres, 8 T_MM-est, 4 T_term, 2 T_conn req, 1 T_no channel
  *   3        transaction value, 0 to 6
  *   4 to 7   call reference, as it came
  *   8        in U5 the state that the termination was asked from, HEIDEZIRKEL_U1 or HEIDEZIRKEL_U2; elsewhere zero: nothing is remembered
  *   9 to 15  zero, kept for later
  *
  * Read it as you like; only heidezirkel_clear and heidezirkel_step should write it. Octets that no call can lead to are refused with 7 (state 8,
- * parameters 16, an octet of 9 to 15 that is not zero, a timer that can't run in the state, U5 without T_term or with nothing remembered). All 16
- * octets zero is the cleared context. Octets that a library before octet 8 had this use has written are contexts still, but in U5. */
+ * parameters 16, timers 32, an octet of 9 to 15 that is not zero, a timer that can't run in the state, U3 without T_pres, U5 without T_term or with
+ * nothing remembered). All 16 octets zero is the cleared context.
+ *
+ * Octets that an older library has written are contexts still, but in two states. In U3, if it had no T_pres: octet 2 is 0 there. Either clear the
+ * context, and the invitation is forgotten; or write HEIDEZIRKEL_T_PRES into octet 2, start that timer with its whole length, and go on. In U5, if octet
+ * 8 had no use: clear the context. */
 enum { /* octet 0 */
     HEIDEZIRKEL_U0 = 0,   /* NULL: no call */
     HEIDEZIRKEL_U0_P = 1, /* MM CONNECTION PENDING */
@@ -101,6 +109,7 @@ enum { /* octet 1 */
     HEIDEZIRKEL_U_ATT = 1  /* attach it in the uplink: let the crew speak */
 };
 enum { /* octet 2 */
+    HEIDEZIRKEL_T_PRES = 16,
     HEIDEZIRKEL_T_MM_EST = 8,
     HEIDEZIRKEL_T_TERM = 4,
     HEIDEZIRKEL_T_CONN_REQ = 2,
@@ -112,21 +121,25 @@ uint32_t heidezirkel_clear(uint8_t context[16]);
 
 /* ---- The settings ------------------------------------------------------------------------------------------------------------------ */
 
-/* What a radio knows of itself, 13 octets that the host keeps and lends:
+/* What a radio knows of itself, 21 octets that the host keeps and lends:
  *
- *   octet    what it is
- *   0        ciphering key number, 0 to 7
- *   1 to 3   mobile station classmark
- *   4        how many octets the own identity has, 1 to 8
- *   5 to 12  the own identity; what stands behind it has no effect (heidezirkel_read_settings writes zeros there)
+ *   octet     what it is
+ *   0         ciphering key number, 0 to 7
+ *   1 to 3    mobile station classmark
+ *   4         how many octets the own identity has, 1 to 8
+ *   5 to 12   the own identity; what stands behind it has no effect (heidezirkel_read_settings writes zeros there)
+ *   13 to 16  the joining timer, the length of T_conn req in milliseconds, low octet first
+ *   17 to 20  the invitation timer, the length of T_pres in milliseconds, low octet first
  *
- * A key number over 7 and an identity of 0 or over 8 octets are refused by every step and every judgement with 4. So are 13 zeros: a host that let its
- * settings begin as zeros and forgot to look at the answer below runs no call on a default. */
+ * A key number over 7 and an identity of 0 or over 8 octets are refused by every step and every judgement with 4. So are 21 zeros: a host that let its
+ * settings begin as zeros and forgot to look at the answer below runs no call on a default. Octets 13 to 20 are for the host, who keeps the timers: they
+ * have no effect on a step or a judgement. The 13 octets that an older library has written are too few: read the file anew, with its fifth line. */
 struct heidezirkel_settings {
-    uint32_t answer;     /* 0 or 12 */
-    uint32_t fault;      /* of 12: why the line is refused, one of the numbers below; else 0 */
-    size_t line;         /* of 12: the line that is refused, counted from 1; where a line is missing, the count of lines plus 1; else 0 */
-    uint32_t joining_ms; /* of 0: the length of T_conn req, 10,000 to 30,000 ms; else 0 */
+    uint32_t answer;        /* 0 or 12 */
+    uint32_t fault;         /* of 12: why the line is refused, one of the numbers below; else 0 */
+    size_t line;            /* of 12: the line that is refused, counted from 1; where a line is missing, the count of lines plus 1; else 0 */
+    uint32_t joining_ms;    /* of 0: the length of T_conn req, 10,000 to 30,000 ms; else 0 */
+    uint32_t invitation_ms; /* of 0: the length of T_pres, 1,000 to 600,000 ms; else 0 */
 };
 enum { /* fault */
     HEIDEZIRKEL_LINE_NO_LINE_FEED = 1,
@@ -139,16 +152,20 @@ enum { /* fault */
     HEIDEZIRKEL_LINE_MISSING_KEY = 8,
     HEIDEZIRKEL_LINE_MISSING_CLASSMARK = 9,
     HEIDEZIRKEL_LINE_MISSING_IDENTITY = 10,
-    HEIDEZIRKEL_LINE_MISSING_JOINING = 11
+    HEIDEZIRKEL_LINE_MISSING_JOINING = 11,
+    HEIDEZIRKEL_LINE_BAD_INVITATION = 12,    /* present_ms= is not a number from 1000 to 600000 */
+    HEIDEZIRKEL_LINE_MISSING_INVITATION = 13 /* no line present_ms= */
 };
 
-/* Reads a settings file, lent whole as `length` bytes: four lines, in any order, each ended by a line feed, as in
+/* Reads a settings file, lent whole as `length` bytes: five lines, in any order, each ended by a line feed, as in
  *     cksn=3
  *     classmark=3319a2
  *     identity=f423a1b2
  *     conn_req_ms=12000
- * Answers 0 and writes the 13 octets, or 12 and leaves them as they were. No default stands in for a line. */
-struct heidezirkel_settings heidezirkel_read_settings(const uint8_t *file, size_t length, uint8_t settings[13]);
+ *     present_ms=60000
+ * Answers 0 and writes the 21 octets, or 12 and leaves them as they were. No default stands in for a line: a file of four lines, as an older library
+ * takes it, is refused at line 5. */
+struct heidezirkel_settings heidezirkel_read_settings(const uint8_t *file, size_t length, uint8_t settings[21]);
 
 /* ---- The step ---------------------------------------------------------------------------------------------------------------------- */
 
@@ -170,7 +187,8 @@ enum { /* what happens: the numbers of events */
     HEIDEZIRKEL_EVENT_TERM_EXPIRED = 15,
     HEIDEZIRKEL_EVENT_CONN_REQ_EXPIRED = 16,
     HEIDEZIRKEL_EVENT_NO_CHANNEL_EXPIRED = 17,
-    HEIDEZIRKEL_EVENT_RECEIVED = 18           /* lower layers: a message came; carries mode and octets */
+    HEIDEZIRKEL_EVENT_RECEIVED = 18,          /* lower layers: a message came; carries mode and octets */
+    HEIDEZIRKEL_EVENT_PRES_EXPIRED = 19       /* the host's clock, as 14 to 17 */
 };
 enum { /* what the host is to do: the actions, added up */
     HEIDEZIRKEL_DO_INFORM = 1,                /* inform higher layers: tell the user what happened */
@@ -192,7 +210,7 @@ enum { /* why a message was ignored: the reason beside answer 1. Where several a
 
 /* An event and its data. What an event does not carry has no effect and may be anything; zero is a good habit. */
 struct heidezirkel_event {
-    uint32_t number;      /* 1 to 18 */
+    uint32_t number;      /* 1 to 19 */
     uint8_t value;        /* of 1, 2 and 10: transaction value, 0 to 6 */
     uint8_t mode;         /* of 18: 0 received in acknowledged mode, 1 in unacknowledged mode */
     uint8_t reference[4]; /* of 1, 2 and 10: call reference */
@@ -209,7 +227,7 @@ struct heidezirkel_step {
  * `reply` has room for at least 255 octets, always. Only the first reply_length octets of it are changed.
  * Tested in this order: 7 the context; 5 the reply buffer; 6 the message's length, for event 18; 4 event number, mode, value, key number, own identity.
  * Then the step: 0 with the context after it, or 1, 2 or 3 with the context as it was. */
-struct heidezirkel_step heidezirkel_step(uint8_t context[16], const uint8_t settings[13], struct heidezirkel_event event,
+struct heidezirkel_step heidezirkel_step(uint8_t context[16], const uint8_t settings[21], struct heidezirkel_event event,
     const uint8_t *message, size_t message_length, uint8_t *reply, size_t reply_room);
 
 /* ---- Messages ---------------------------------------------------------------------------------------------------------------------- */
@@ -278,7 +296,9 @@ struct heidezirkel_used {
     size_t used;     /* how many bytes are used now; where refused, as many as before */
 };
 
-/* Begins a log: its version, one byte, 2: that of the table which heidezirkel_step follows. Answers 0, or 11 where there is no room. Used is then 1, or 0 where refused. */
+/* Begins a log: its version, one byte, 3: that of the table which heidezirkel_step follows. Answers 0, or 11 where there is no room. Used is then 1, or 0
+ * where refused. A log is judged from a cleared context on, by the version that it begins with: begin it in U0, and add nothing to a log that an older
+ * library began. */
 struct heidezirkel_used heidezirkel_begin_log(uint8_t *log, size_t room);
 
 /* Adds an entry behind the bytes used: `delta_ms` after the entry before (of the first: after the log's beginning), up to 86,400,000; the event with
@@ -296,12 +316,16 @@ struct heidezirkel_judgement {
     size_t entry;         /* of 0: how many entries there are; of 8 and 9: the entry at which the log is refused, counted from 1, 0 the version; else 0 */
     uint32_t least_ms;    /* of 0: the least joining timer that explains the whole log; else 0 */
     uint32_t greatest_ms; /* of 0: the greatest; all between explain it too; else 0 */
+    uint32_t invitation_least_ms;    /* of 0, where the log has version 3: the least invitation timer that explains it; else 0 */
+    uint32_t invitation_greatest_ms; /* of 0, where the log has version 3: the greatest; all between explain it too; else 0 */
 };
 
-/* Judges a log of `length` bytes: whether it is what a radio with these settings does from a cleared context, with one joining timer from 10,000 to
- * 30,000 ms. Answers 10 for over 65,536 bytes, then 4 for settings out of range, then takes the entries in order: 8 at the first that can't be read,
- * 9 at the first up to which no joining timer explains the log, else 0. */
-struct heidezirkel_judgement heidezirkel_judge(const uint8_t settings[13], const uint8_t *log, size_t length);
+/* Judges a log of `length` bytes: whether it is what a radio with these settings does from a cleared context, by the table of the version that the log
+ * begins with, 1 to 3, and with one joining timer from 10,000 to 30,000 ms; in version 3 with one invitation timer from 1,000 to 600,000 ms besides.
+ * Answers 10 for over 65,536 bytes, then 4 for settings out of range, then takes the entries in order: 8 at the first that can't be read, 9 at the first
+ * up to which no such timers explain the log, else 0. Then every joining timer from the least to the greatest explains it, in version 3 beside every
+ * invitation timer from the least to the greatest. Versions 1 and 2 have no invitation timer: both its numbers are 0, and event 19 can't be read there. */
+struct heidezirkel_judgement heidezirkel_judge(const uint8_t settings[21], const uint8_t *log, size_t length);
 
 struct heidezirkel_number {
     uint32_t answer; /* 0, or 8 where no number stands there */

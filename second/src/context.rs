@@ -1,5 +1,5 @@
 //! The context of one call and when it is fit (document 01, "The context", and
-//! document 02, A2, for what it remembers).
+//! document 02, A2, for what it remembers, A13 for the timer of an invitation).
 
 use crate::state::{Parameters, State};
 use crate::tables::Table;

@@ -1,5 +1,5 @@
 //! Events by their numbers, and what each of them carries (document 01,
-//! "Events and steps").
+//! "Events and steps"; document 02, A13, for event 19).
 
 use crate::tables::Table;
 
@@ -21,6 +21,7 @@ pub const EXPIRY_TERM: u32 = 15;
 pub const EXPIRY_CONN_REQ: u32 = 16;
 pub const EXPIRY_NO_CHANNEL: u32 = 17;
 pub const MESSAGE_RECEIVED: u32 = 18;
+pub const EXPIRY_PRES: u32 = 19;
 
 /// Mode of event 18: 0 is acknowledged, 1 is not, and nothing lies above.
 pub const UNACKNOWLEDGED: u32 = 1;
@@ -48,18 +49,20 @@ pub enum Carries {
 
 /// None for a number that is no event of this table.
 pub fn carries(table: Table, number: u32) -> Option<Carries> {
-    match table {
-        Table::First | Table::Second => carries_in_broadcast(number),
-    }
-}
-
-fn carries_in_broadcast(number: u32) -> Option<Carries> {
     match number {
         SET_UP_REQUEST | IMMEDIATE_SET_UP_REQUEST | BROADCAST_NOTIFIED => Some(Carries::Call),
         MESSAGE_RECEIVED => Some(Carries::Message),
         1..=17 => Some(Carries::Nothing),
+        EXPIRY_PRES if table == Table::Third => Some(Carries::Nothing),
         _ => None,
     }
+}
+
+/// The numbers of this table's events that are no message.
+pub fn all_but_messages(table: Table) -> Vec<u32> {
+    (1..=EXPIRY_PRES)
+        .filter(|number| *number != MESSAGE_RECEIVED && carries(table, *number).is_some())
+        .collect()
 }
 
 impl Event {

@@ -1,6 +1,7 @@
-//! The settings file (document 01, "Settings file").
+//! The settings file (document 01, "Settings file"; document 02, A13, for its
+//! fifth line).
 
-use crate::timer::{CONN_REQ_GREATEST, CONN_REQ_LEAST};
+use crate::timer::Setting;
 
 #[derive(Clone, PartialEq, Eq, Debug, Default)]
 pub struct Settings {
@@ -8,15 +9,22 @@ pub struct Settings {
     pub classmark: Vec<u8>,
     pub identity: Vec<u8>,
     pub conn_req_ms: u64,
+    pub present_ms: u64,
 }
 
-/// The four names, in the order of document 01.
-const NAMES: [&[u8]; 4] = [b"cksn=", b"classmark=", b"identity=", b"conn_req_ms="];
+/// The five names, in the order of the papers.
+const NAMES: [&[u8]; 5] = [
+    b"cksn=",
+    b"classmark=",
+    b"identity=",
+    b"conn_req_ms=",
+    b"present_ms=",
+];
 
 /// The settings, or the number of the line that is refused.
 pub fn read(file: &[u8]) -> Result<Settings, usize> {
     let mut settings = Settings::default();
-    let mut seen = [false; 4];
+    let mut seen = [false; NAMES.len()];
     let mut lines = 0;
     let mut rest = file;
     while !rest.is_empty() {
@@ -44,7 +52,8 @@ fn read_line(line: &[u8], settings: &mut Settings) -> Option<usize> {
         0 => settings.key_number = key_number(value)?,
         1 => settings.classmark = hexadecimal(value, 6, 6)?,
         2 => settings.identity = hexadecimal(value, 2, 16)?,
-        _ => settings.conn_req_ms = milliseconds(value)?,
+        3 => settings.conn_req_ms = milliseconds(value, Setting::Joining)?,
+        _ => settings.present_ms = milliseconds(value, Setting::Invitation)?,
     }
     Some(name)
 }
@@ -77,16 +86,19 @@ fn digit(byte: u8) -> Option<u8> {
     }
 }
 
-/// Decimal without a leading zero, 10000 to 30000: five digits.
-fn milliseconds(value: &[u8]) -> Option<u64> {
-    if value.len() != 5 || !value.iter().all(u8::is_ascii_digit) {
+/// Decimal without a leading zero, within the setting's bounds.
+fn milliseconds(value: &[u8], setting: Setting) -> Option<u64> {
+    // Six digits hold the greatest of them; no digit, or a zero first, is none.
+    if value.len() > 6 || !matches!(value.first(), Some(b'1'..=b'9')) {
         return None;
     }
-    let number = value
-        .iter()
-        .fold(0, |sum, byte| sum * 10 + u64::from(byte - b'0'));
-    // Five digits of 10000 or more have no leading zero.
-    (CONN_REQ_LEAST..=CONN_REQ_GREATEST)
-        .contains(&number)
-        .then_some(number)
+    let mut number = 0;
+    for byte in value {
+        if !byte.is_ascii_digit() {
+            return None;
+        }
+        number = number * 10 + u64::from(byte - b'0');
+    }
+    let (least, greatest) = setting.bounds();
+    (least..=greatest).contains(&number).then_some(number)
 }

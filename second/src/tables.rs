@@ -1,8 +1,9 @@
 //! The step tables that a call can follow, and all in which they differ but
 //! their rows and timers, which stand in `step::table` and `timer`. A log is
-//! judged by the table of its version (document 02, A2).
+//! judged by the table of its version (document 02, A2 and A13).
 
 use crate::state::State::{self, *};
+use crate::timer::Setting;
 use Table::*;
 
 #[derive(Clone, Copy, PartialEq, Eq, Debug)]
@@ -11,20 +12,23 @@ pub enum Table {
     First,
     /// A2: it leads back to the state that it was asked from.
     Second,
+    /// A13: besides, an invitation runs out.
+    Third,
 }
 
 /// Every table, in the order of their versions.
-pub const TABLES: [Table; 2] = [First, Second];
+pub const TABLES: [Table; 3] = [First, Second, Third];
 
 impl Table {
     /// What the step and the recorder follow; older tables live in the judge alone.
-    pub const NEWEST: Table = Second;
+    pub const NEWEST: Table = Third;
 
     /// The number that begins a log of this table.
     pub fn version(self) -> u32 {
         match self {
             First => 1,
             Second => 2,
+            Third => 3,
         }
     }
 
@@ -37,21 +41,30 @@ impl Table {
     pub fn asked_from(self) -> &'static [State] {
         match self {
             First => &[],
-            Second => &[U1, U2],
+            Second | Third => &[U1, U2],
         }
     }
 
     /// The greatest state number that an entry of a log may claim.
     pub fn greatest_state(self) -> u32 {
         match self {
-            First | Second => 7,
+            First | Second | Third => 7,
         }
     }
 
     /// The greatest sum of actions that an entry of a log may claim.
     pub fn greatest_actions(self) -> u32 {
         match self {
-            First | Second => 63,
+            First | Second | Third => 63,
+        }
+    }
+
+    /// The settings that a log of this table is judged under, in the order in
+    /// which the judge reports them.
+    pub fn settings(self) -> &'static [Setting] {
+        match self {
+            First | Second => &[Setting::Joining],
+            Third => &[Setting::Joining, Setting::Invitation],
         }
     }
 }

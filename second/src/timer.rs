@@ -1,5 +1,5 @@
-//! The four timers: how long they run and, by the table, in which states
-//! (document 01, "The context"; document 02, A2; the standard, table 6.1).
+//! The five timers: how long they run and, by the table, in which states
+//! (document 01, "The context"; document 02, A2 and A13; the standard, table 6.1).
 
 use crate::state::State;
 use crate::tables::Table;
@@ -11,18 +11,58 @@ pub enum Timer {
     Term,
     ConnReq,
     NoChannel,
+    Pres,
 }
 
 use Timer::*;
 
-/// The least and the greatest value that the one setting, T_conn req, may have.
-pub const CONN_REQ_LEAST: u64 = 10_000;
-pub const CONN_REQ_GREATEST: u64 = 30_000;
+/// A timer's length that the settings file gives.
+#[derive(Clone, Copy, PartialEq, Eq, Debug)]
+pub enum Setting {
+    /// T_conn req.
+    Joining,
+    /// T_pres.
+    Invitation,
+}
+
+impl Setting {
+    /// The least and the greatest number of milliseconds that it may have.
+    pub fn bounds(self) -> (u64, u64) {
+        match self {
+            Setting::Joining => (10_000, 30_000),
+            Setting::Invitation => (1_000, 600_000),
+        }
+    }
+}
+
+#[derive(Clone, Copy, PartialEq, Eq, Debug)]
+pub enum Length {
+    Milliseconds(u64),
+    Set(Setting),
+}
+
+/// Both settings, chosen.
+#[derive(Clone, Copy, PartialEq, Eq, Debug)]
+pub struct Chosen {
+    pub joining: u64,
+    pub invitation: u64,
+}
+
+impl Length {
+    pub fn milliseconds(self, chosen: &Chosen) -> u64 {
+        match self {
+            Milliseconds(number) => number,
+            Set(Setting::Joining) => chosen.joining,
+            Set(Setting::Invitation) => chosen.invitation,
+        }
+    }
+}
+
+use Length::*;
 
 pub struct TimerRow {
     pub timer: Timer,
-    /// Milliseconds; None where a setting gives them.
-    pub milliseconds: Option<u64>,
+    pub length: Length,
     pub always_in: &'static [State],
     pub optionally_in: &'static [State],
     /// The event that is this timer's expiry.
@@ -33,30 +73,39 @@ pub struct TimerRow {
 mod rows {
     use super::*;
 
-    pub const MM_EST: TimerRow          = TimerRow { timer: MmEst,     milliseconds: Some(5_000),  always_in: &[U0p], optionally_in: &[U1], expiry: 14 };
-    pub const TERM_AT_FIRST: TimerRow   = TimerRow { timer: Term,      milliseconds: Some(10_000), always_in: &[],    optionally_in: &[U5], expiry: 15 };
-    pub const TERM: TimerRow            = TimerRow { timer: Term,      milliseconds: Some(10_000), always_in: &[U5],  optionally_in: &[],   expiry: 15 };
-    pub const CONN_REQ: TimerRow        = TimerRow { timer: ConnReq,   milliseconds: None,         always_in: &[U4],  optionally_in: &[],   expiry: 16 };
-    pub const NO_CHANNEL: TimerRow      = TimerRow { timer: NoChannel, milliseconds: Some(3_000),  always_in: &[],    optionally_in: &[U6], expiry: 17 };
+    use Setting::*;
+
+    pub const MM_EST: TimerRow          = TimerRow { timer: MmEst,     length: Milliseconds(5_000),  always_in: &[U0p], optionally_in: &[U1], expiry: 14 };
+    pub const TERM_AT_FIRST: TimerRow   = TimerRow { timer: Term,      length: Milliseconds(10_000), always_in: &[],    optionally_in: &[U5], expiry: 15 };
+    pub const TERM: TimerRow            = TimerRow { timer: Term,      length: Milliseconds(10_000), always_in: &[U5],  optionally_in: &[],   expiry: 15 };
+    pub const CONN_REQ: TimerRow        = TimerRow { timer: ConnReq,   length: Set(Joining),         always_in: &[U4],  optionally_in: &[],   expiry: 16 };
+    pub const NO_CHANNEL: TimerRow      = TimerRow { timer: NoChannel, length: Milliseconds(3_000),  always_in: &[],    optionally_in: &[U6], expiry: 17 };
+    pub const NEVER_PRES: TimerRow      = TimerRow { timer: Pres,      length: Set(Invitation),      always_in: &[],    optionally_in: &[],   expiry: 19 };
+    pub const PRES: TimerRow            = TimerRow { timer: Pres,      length: Set(Invitation),      always_in: &[U3],  optionally_in: &[],   expiry: 19 };
 }
 
+/// So many timers there are.
+pub const TIMERS: usize = 5;
+
 impl Table {
-    pub fn timers(self) -> &'static [TimerRow; 4] {
+    pub fn timers(self) -> &'static [TimerRow; TIMERS] {
         use rows::*;
         match self {
-            Table::First => &[MM_EST, TERM_AT_FIRST, CONN_REQ, NO_CHANNEL],
-            Table::Second => &[MM_EST, TERM, CONN_REQ, NO_CHANNEL],
+            Table::First => &[MM_EST, TERM_AT_FIRST, CONN_REQ, NO_CHANNEL, NEVER_PRES],
+            Table::Second => &[MM_EST, TERM, CONN_REQ, NO_CHANNEL, NEVER_PRES],
+            Table::Third => &[MM_EST, TERM, CONN_REQ, NO_CHANNEL, PRES],
         }
     }
 }
 
-/// Which of the four timers run.
+/// Which of the five timers run.
 #[derive(Clone, Copy, PartialEq, Eq, Debug, Default)]
 pub struct RunningTimers {
     mm_est: bool,
     term: bool,
     conn_req: bool,
     no_channel: bool,
+    pres: bool,
 }
 
 impl RunningTimers {
@@ -66,6 +115,7 @@ impl RunningTimers {
             Term => self.term,
             ConnReq => self.conn_req,
             NoChannel => self.no_channel,
+            Pres => self.pres,
         }
     }
 
@@ -75,19 +125,23 @@ impl RunningTimers {
             Term => self.term = running,
             ConnReq => self.conn_req = running,
             NoChannel => self.no_channel = running,
+            Pres => self.pres = running,
         }
     }
 
-    /// 8 T_MM-est + 4 T_term + 2 T_conn req + T_no channel.
+    /// 16 T_pres + 8 T_MM-est + 4 T_term + 2 T_conn req + T_no channel.
     pub fn number(&self) -> u8 {
-        8 * u8::from(self.mm_est)
+        16 * u8::from(self.pres)
+            + 8 * u8::from(self.mm_est)
             + 4 * u8::from(self.term)
             + 2 * u8::from(self.conn_req)
             + u8::from(self.no_channel)
     }
 
+    /// The reverse of `number`, for 0 to 31.
     pub fn from_number(number: u8) -> RunningTimers {
         RunningTimers {
+            pres: number & 16 != 0,
             mm_est: number & 8 != 0,
             term: number & 4 != 0,
             conn_req: number & 2 != 0,

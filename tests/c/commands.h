@@ -13,8 +13,8 @@ bool settings_command(struct line *line);
 bool judge_command(struct line *line);
 bool record_command(struct line *line);
 
-/* The words KEY CLASSMARK IDENTITY as 13 settings octets. */
-void settings_words(struct line *line, uint8_t settings[13]);
+/* The words KEY CLASSMARK IDENTITY as settings octets; those behind the identity, and the timers', hold what may be anything. */
+void settings_words(struct line *line, uint8_t settings[HEIDEZIRKEL_SETTINGS_OCTETS]);
 /* The words EVENT EVALUE EREFERENCE MODE, value and mode up to `greatest`. */
 struct heidezirkel_event event_words(struct line *line, uint32_t greatest);
 /* A number as the octet that C has room for: one that is too large for it stays out of range. */

@@ -7,28 +7,40 @@ static void print_judgement(struct heidezirkel_judgement judged) {
     printf("%u", judged.answer);
     if (judged.answer == HEIDEZIRKEL_TAKEN)
         printf(" %zu %u %u", judged.entry, judged.least_ms, judged.greatest_ms);
+    if (judged.invitation_greatest_ms != 0)
+        printf(" %u %u", judged.invitation_least_ms, judged.invitation_greatest_ms);
     if (judged.answer == HEIDEZIRKEL_UNREADABLE_LOG || judged.answer == HEIDEZIRKEL_UNEXPLAINED)
         printf(" %zu", judged.entry);
 }
 
-static void look_at_judgement(struct heidezirkel_judgement judged) {
+/* Whether each is from the least that a timer may be to the greatest, and the first not over the second. */
+static bool is_window(uint32_t least, uint32_t greatest, uint32_t least_of_all, uint32_t greatest_of_all) {
+    return least_of_all <= least && least <= greatest && greatest <= greatest_of_all;
+}
+
+static void look_at_judgement(struct heidezirkel_judgement judged, const struct lent *log) {
     bool accepts = judged.answer == HEIDEZIRKEL_TAKEN;
     bool names = judged.answer == HEIDEZIRKEL_UNREADABLE_LOG || judged.answer == HEIDEZIRKEL_UNEXPLAINED;
     promise(accepts || names || judged.entry == 0, "judge: an entry with an answer that names none");
-    promise(accepts || (judged.least_ms == 0 && judged.greatest_ms == 0), "judge: timers without answer 0");
+    bool invites = accepts && log->octets[0] == 3;
+    promise(accepts ? is_window(judged.least_ms, judged.greatest_ms, 10000, 30000) : judged.least_ms == 0 && judged.greatest_ms == 0,
+        "judge: joining timers without answer 0, or out of their range");
+    promise(invites ? is_window(judged.invitation_least_ms, judged.invitation_greatest_ms, 1000, 600000)
+                    : judged.invitation_least_ms == 0 && judged.invitation_greatest_ms == 0,
+        "judge: invitation timers without answer 0 or version 3, or out of their range");
     refusals_seen += !accepts;
 }
 
 bool judge_command(struct line *line) {
-    uint8_t own[13];
+    uint8_t own[HEIDEZIRKEL_SETTINGS_OCTETS];
     settings_words(line, own);
     struct octets bytes = octets_word(line);
     if (!whole(line))
         return false;
-    struct lent settings = lend_octets(own, 13);
+    struct lent settings = lend_octets(own, HEIDEZIRKEL_SETTINGS_OCTETS);
     struct lent log = lend_octets(bytes.at, bytes.count);
     struct heidezirkel_judgement judged = heidezirkel_judge(settings.octets, log.octets, log.length);
-    look_at_judgement(judged);
+    look_at_judgement(judged, &log);
     promise(kept(&settings, 0) && kept(&log, 0), "judge: settings or log changed");
     print_judgement(judged);
     give_back(&settings);

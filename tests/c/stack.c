@@ -7,7 +7,7 @@
 
 enum { MOST = 2048, ROUNDS = 20000, OFTEN = 7, CALLS = 9 };
 
-static uint8_t context[16], settings[13], octets[256], reply[255], log_bytes[4096];
+static uint8_t context[16], settings[HEIDEZIRKEL_SETTINGS_OCTETS], octets[256], reply[255], log_bytes[4096];
 static size_t used;
 static struct heidezirkel_event event;
 static struct heidezirkel_step done;
@@ -18,10 +18,10 @@ static unsigned random_below(unsigned n) { return (unsigned)(rand() % (int)n); }
 static void fresh(void) {
     size_t i;
     for (i = 0; i < sizeof octets; i++) octets[i] = (uint8_t)random_below(256);
-    for (i = 0; i < 13; i++) settings[i] = (uint8_t)random_below(256);
+    for (i = 0; i < sizeof settings; i++) settings[i] = (uint8_t)random_below(256);
     settings[0] = (uint8_t)random_below(8);
     settings[4] = (uint8_t)(1 + random_below(8));
-    event.number = random_below(3) ? 18 : 1 + random_below(18);
+    event.number = random_below(3) ? 18 : 1 + random_below(19);
     event.value = (uint8_t)random_below(7);
     event.mode = (uint8_t)random_below(2);
     octets[0] = (uint8_t)(1 + 16 * context[3] + 128 * (context[0] >= 1 && (context[0] <= 3 || context[0] == 6)));
@@ -38,7 +38,7 @@ static void call_number(void) { (void)heidezirkel_read_number(octets, sizeof oct
 static void call_begin(void) { used = heidezirkel_begin_log(log_bytes, sizeof log_bytes).used; }
 static void call_clear(void) { (void)heidezirkel_clear(context); }
 static void call_settings(void) {
-    static const char file[] = "cksn=5\nclassmark=0102a3\nidentity=12345678\nconn_req_ms=12000\n";
+    static const char file[] = "cksn=5\nclassmark=0102a3\nidentity=12345678\nconn_req_ms=12000\npresent_ms=60000\n";
     (void)heidezirkel_read_settings((const uint8_t *)file, sizeof file - 1 - random_below(3), settings);
 }
 

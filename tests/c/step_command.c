@@ -8,8 +8,9 @@ uint8_t clipped(uint32_t number) {
 }
 
 /* An identity over 8 octets is told by its length: there is no room for more of it. */
-void settings_words(struct line *line, uint8_t settings[13]) {
-    memset(settings, 0, 13);
+void settings_words(struct line *line, uint8_t settings[HEIDEZIRKEL_SETTINGS_OCTETS]) {
+    for (size_t i = 0; i < HEIDEZIRKEL_SETTINGS_OCTETS; i++)
+        settings[i] = (uint8_t)(line_number * 29 + i * 97);
     settings[0] = (uint8_t)number_word(line, 255);
     exact_word(line, settings + 1, 3);
     struct octets identity = octets_word(line);
@@ -31,7 +32,7 @@ static void context_words(struct line *line, uint8_t context[16]) {
     memset(context, 0, 16);
     context[0] = (uint8_t)number_word(line, 255);
     context[1] = (uint8_t)number_word(line, 15);
-    context[2] = (uint8_t)number_word(line, 15);
+    context[2] = (uint8_t)number_word(line, 31);
     context[3] = (uint8_t)number_word(line, 255);
     exact_word(line, context + 4, 4);
     context[8] = (uint8_t)number_word(line, 255);
@@ -51,6 +52,9 @@ static void look_at_step(struct heidezirkel_step step, const struct lent *contex
     promise(ignores ? step.reason >= 1 && step.reason <= 6 : step.reason == 0, "step: a reason that does not go with the answer");
     for (size_t i = 9; i < 16; i++)
         promise(context->octets[i] == 0, "step: a kept octet of the context is not zero");
+    bool invited = context->octets[0] == HEIDEZIRKEL_U3;
+    promise(step.answer == HEIDEZIRKEL_NO_CONTEXT || invited == !!(context->octets[2] & HEIDEZIRKEL_T_PRES),
+        "step: T_pres does not run in U3, or runs outside it");
     bool remembers = context->octets[8] == HEIDEZIRKEL_U1 || context->octets[8] == HEIDEZIRKEL_U2;
     bool asked = context->octets[0] == HEIDEZIRKEL_U5;
     promise(step.answer == HEIDEZIRKEL_NO_CONTEXT || (asked ? remembers : context->octets[8] == 0),
@@ -67,7 +71,7 @@ static void print_step(struct heidezirkel_step step, const uint8_t *context, con
 }
 
 bool step_command(struct line *line) {
-    uint8_t before[16], own[13];
+    uint8_t before[16], own[HEIDEZIRKEL_SETTINGS_OCTETS];
     context_words(line, before);
     settings_words(line, own);
     size_t room = number_word(line, UINT32_MAX);
@@ -76,7 +80,7 @@ bool step_command(struct line *line) {
     if (!whole(line))
         return false;
     struct lent context = lend_octets(before, 16);
-    struct lent settings = lend_octets(own, 13);
+    struct lent settings = lend_octets(own, HEIDEZIRKEL_SETTINGS_OCTETS);
     struct lent message = lend_octets(received.at, received.count);
     struct lent reply = lend(room);
     struct heidezirkel_step step =

@@ -1,6 +1,7 @@
 pub mod Reasons
 pub mod Kept
 pub mod Return
+pub mod Invitation
 pub mod Answers
 pub mod Timed
 pub mod Coincide

@@ -46,7 +46,7 @@ seenMessage (Message.Termination cause) = heard TERMINATION noReference 0
 seenMessage (Message.TerminationReject cause) = heard TERMINATION-REJECT noReference 0
 seenMessage (Message.TerminationRequest reference) = heard TERMINATION-REQUEST noReference 0
 
--- The eighteen events.
+-- The events: eighteen of document 01, and the expiry of the invitation timer, "event 19".
 unfoldable pub seenOf : Event → Seen
 seenOf (Event.SetUp value reference) = carrying 1 value reference  -- set-up request
 seenOf (Event.ImmediateSetUp value reference) = carrying 2 value reference  -- immediate set-up request
@@ -66,3 +66,4 @@ seenOf Event.TermExpired = bare 15  -- expiry of T_term
 seenOf Event.ConnReqExpired = bare 16  -- expiry of T_conn req
 seenOf Event.NoChannelExpired = bare 17  -- expiry of T_no channel
 seenOf (Event.Received mode message) = seenMessage message  -- message received
+seenOf Event.PresExpired = bare 19  -- expiry of T_pres

@@ -9,7 +9,7 @@ use message::Message;
 use message::Reference;
 use transitions::Send;
 
-// The events of document 01, in the order of their numbers 1 to 18.
+// The events of document 01, in the order of their numbers 1 to 18, and 19, which the third step table has.
 pub enum Event {
     SetUp(u8, Reference),
     ImmediateSetUp(u8, Reference),
@@ -30,6 +30,7 @@ pub enum Event {
     NoChannelExpired,
     // Its mode, 0 acknowledged or 1 not, and the message.
     Received(u8, Message),
+    PresExpired,
 }
 
 // An event taken apart: its number, the type of its message, and what it carries: a transaction value, a reference, state attributes. What it does not carry is 0.
@@ -202,5 +203,6 @@ pub fn seen_event(event: Event) -> Seen
         Event::ConnReqExpired => Seen::bare(16),
         Event::NoChannelExpired => Seen::bare(17),
         Event::Received(_, message) => seen_message(message),
+        Event::PresExpired => Seen::bare(19),
     }
 }

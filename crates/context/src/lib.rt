@@ -55,6 +55,7 @@ impl Context {
                 term: false,
                 connreq: false,
                 nochannel: false,
+                pres: false,
             },
             value: 0,
             reference: Reference {

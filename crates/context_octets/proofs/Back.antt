@@ -6,7 +6,7 @@ use mathlib.Core.Bool.{Bool, true, false, _&&_, _||_}
 use native.Mathlib.Omega.{arith}
 use lib.Dec.{eqb, leb}
 use lib.ListN.{length, getD}
-use borrow.Author.Tests.{eqb-true, eqb-false, leb-true}
+use borrow.Author.Tests.{eqb-true, eqb-false, leb-true, le-leb}
 use Rattle.octets.proofs.Choice.{at-cond}
 use Rattle.codes.specs.declared.state.State.{State}
 use Rattle.codes.specs.declared.state.State.the-variants.{U0, U0p, U1, U2, U3, U4, U5, U6}
@@ -22,8 +22,9 @@ use Rattle.context_octets.specs.declared.Numbered.{Numbered}
 use Rattle.context_octets.specs.declared.Numbered.the-variants.{Is as IsState, NoState}
 use Rattle.context_octets.specs.declared.Reading.{Reading}
 use Rattle.context_octets.specs.declared.Reading.the-variants.{Is, NoContext}
-use Rattle.context_octets.specs.Octets.{bit, contextOf, fourNumber, isKept, isRemembered, rememberedAt, octetsOf, onState, parametersAt, stateAt, timersAt, withState}
+use Rattle.context_octets.specs.Octets.{bit, contextOf, fourNumber, isKept, isRemembered, rememberedAt, octetsOf, onState, parametersAt, stateAt, timersAt, timersNumber, withState}
 use Rattle.octets.proofs.Listed.{all-listed, listed}
+use Rattle.context_octets.proofs.Bits.{bit-most}
 
 -- ---- what is written is read back
 
@@ -58,6 +59,15 @@ bits false false true false = record { small = refl; eight = refl; four = refl; 
 bits false false false true = record { small = refl; eight = refl; four = refl; two = refl; one = refl }
 bits false false false false = record { small = refl; eight = refl; four = refl; two = refl; one = refl }
 
+-- Five bits, the first of which weighs 16.
+record Bits-and-sixteen (n : ℕ) (e a b c d : Bool) : Type 0 where
+  small : leb n 31 ≡ true
+  sixteen : eqb (n / 16 % 2) 1 ≡ e
+  eight : eqb (n / 8 % 2) 1 ≡ a
+  four : eqb (n / 4 % 2) 1 ≡ b
+  two : eqb (n / 2 % 2) 1 ≡ c
+  one : eqb (n % 2) 1 ≡ d
+
 -- What is remembered, by its number.
 record Minded (n : ℕ) (r : Remembered) : Type 0 where
   one-of : isRemembered n ≡ true
@@ -67,15 +77,38 @@ minded : (r : Remembered) → Minded (rememberedNumber r) r
 unfolding rememberedNumber isRemembered rememberedAt
 minded = elim [ Remembered.Nothing ↦ record { one-of = refl; back = refl } | Remembered.U1 ↦ record { one-of = refl; back = refl } | Remembered.U2 ↦ record { one-of = refl; back = refl } ]
 
+-- A fifth bit that weighs 16 leaves the four as they are.
+bit-is : (e : Bool) → eqb (bit e) 1 ≡ e
+bit-is true = refl
+bit-is false = refl
+
+over-sixteen : (e : Bool) (n : ℕ) (a b c d : Bool) → Bits n a b c d → Bits-and-sixteen (16 * bit e + n) e a b c d
+over-sixteen e n a b c d h =
+    let m : n ≤ 15 = leb-true n 15 (h .small) in
+    let k : bit e ≤ 1 = bit-most e in
+    let w16 : (16 * bit e + n) / 16 % 2 ≡ bit e = omega arith in
+    let w8 : (16 * bit e + n) / 8 % 2 ≡ n / 8 % 2 = omega arith in
+    let w4 : (16 * bit e + n) / 4 % 2 ≡ n / 4 % 2 = omega arith in
+    let w2 : (16 * bit e + n) / 2 % 2 ≡ n / 2 % 2 = omega arith in
+    let w1 : (16 * bit e + n) % 2 ≡ n % 2 = omega arith in
+    record {
+      small = le-leb (16 * bit e + n) 31 (omega arith);
+      sixteen = ap (λ (k : ℕ). eqb k 1) w16 ∙ bit-is e;
+      eight = ap (λ (k : ℕ). eqb k 1) w8 ∙ h .eight;
+      four = ap (λ (k : ℕ). eqb k 1) w4 ∙ h .four;
+      two = ap (λ (k : ℕ). eqb k 1) w2 ∙ h .two;
+      one = ap (λ (k : ℕ). eqb k 1) w1 ∙ h .one;
+    }
+
 pub read-written : (x : Context) → contextOf (octetsOf x) ≡ Is x
-unfolding contextOf isKept octetsOf withState parametersAt timersAt
+unfolding contextOf isKept octetsOf withState parametersAt timersAt timersNumber
 read-written x =
     let p : Parameters = x .parameters in
     let t : Timers = x .timers in
     let b = bits (p .orig) (p .comm) (p .datt) (p .uatt) in
-    let c = bits (t .mmest) (t .term) (t .connreq) (t .nochannel) in
+    let c = over-sixteen (t .pres) (fourNumber (t .mmest) (t .term) (t .connreq) (t .nochannel)) (t .mmest) (t .term) (t .connreq) (t .nochannel) (bits (t .mmest) (t .term) (t .connreq) (t .nochannel)) in
     let m = minded (x .remembered) in
-    rw (b .small, c .small, m .one-of, state-back (x .state), m .back, b .eight, b .four, b .two, b .one, c .eight, c .four, c .two, c .one)
+    rw (b .small, c .small, m .one-of, state-back (x .state), m .back, b .eight, b .four, b .two, b .one, c .sixteen, c .eight, c .four, c .two, c .one)
 
 -- ---- what is read is written back
 
@@ -85,14 +118,24 @@ bit-of n h = at-cond (λ (k : ℕ). k ≡ n) (eqb n 1) 1 0 (λ e. sym (eqb-true 
     zero-left : eqb n 1 ≡ false → 0 ≡ n
     zero-left e = omega (arith, eqb-false n 1 e)
 
-four-back : (n : ℕ) → n ≤ 15 → fourNumber (eqb (n / 8 % 2) 1) (eqb (n / 4 % 2) 1) (eqb (n / 2 % 2) 1) (eqb (n % 2) 1) ≡ n
+four-back : (n : ℕ) → fourNumber (eqb (n / 8 % 2) 1) (eqb (n / 4 % 2) 1) (eqb (n / 2 % 2) 1) (eqb (n % 2) 1) ≡ n % 16
 unfolding fourNumber
-four-back n h =
-    let a : n / 8 % 2 ≡ n / 8 = omega arith in
+four-back n =
+    let a : n / 8 ≡ 2 * (n / 16) + n / 8 % 2 = omega arith in
     let b : n / 4 ≡ 2 * (n / 8) + n / 4 % 2 = omega arith in
     let c : n / 2 ≡ 2 * (n / 4) + n / 2 % 2 = omega arith in
     let d : n ≡ 2 * (n / 2) + n % 2 = omega arith in
     rw (bit-of (n / 8 % 2) (omega arith), bit-of (n / 4 % 2) (omega arith), bit-of (n / 2 % 2) (omega arith), bit-of (n % 2) (omega arith)) (omega arith)
+
+parameters-back : (n : ℕ) → n ≤ 15 → fourNumber (eqb (n / 8 % 2) 1) (eqb (n / 4 % 2) 1) (eqb (n / 2 % 2) 1) (eqb (n % 2) 1) ≡ n
+parameters-back n h = four-back n ∙ small
+  where
+    small : n % 16 ≡ n
+    small = omega arith
+
+timers-back : (n : ℕ) → n ≤ 31 → timersNumber (timersAt n) ≡ n
+unfolding timersNumber timersAt
+timers-back n h = rw (bit-of (n / 16 % 2) (omega arith), four-back n) (omega arith)
 
 -- A state's number is the one that it was read from.
 abbrev From : ℕ → Numbered → Type 0
@@ -126,7 +169,7 @@ minded-from n e =
 -- What kept octets are.
 record Kept (s : List ℕ) : Type 0 where
   parameters : getD s 1 0 ≤ 15
-  timers : getD s 2 0 ≤ 15
+  timers : getD s 2 0 ≤ 31
   remembered : isRemembered (getD s 8 0) ≡ true
   zeros : listed 7 9 s ≡ 0 ∷ 0 ∷ 0 ∷ 0 ∷ 0 ∷ 0 ∷ 0 ∷ []
 
@@ -136,8 +179,8 @@ is-zero n b e = eqb-true n 0 (and-left (eqb n 0) b e)
 kept : (s : List ℕ) → isKept s ≡ true → Kept s
 unfolding isKept
 kept s e =
-    let low : (leb (getD s 2 0) 15 && _) ≡ true = and-right (leb (getD s 1 0) 15) _ e in
-    let rest = and-right (leb (getD s 2 0) 15) _ low in
+    let low : (leb (getD s 2 0) 31 && _) ≡ true = and-right (leb (getD s 1 0) 15) _ e in
+    let rest = and-right (leb (getD s 2 0) 31) _ low in
     let a = and-left _ (eqb (getD s 12 0) 0 && (eqb (getD s 13 0) 0 && (eqb (getD s 14 0) 0 && eqb (getD s 15 0) 0))) rest in
     let b = and-right (isRemembered (getD s 8 0) && (eqb (getD s 9 0) 0 && (eqb (getD s 10 0) 0 && eqb (getD s 11 0) 0))) _ rest in
     let a1 = and-right (isRemembered (getD s 8 0)) _ a in
@@ -146,7 +189,7 @@ kept s e =
     let b2 = and-right (eqb (getD s 13 0) 0) _ b1 in
     record {
       parameters = leb-true (getD s 1 0) 15 (and-left (leb (getD s 1 0) 15) _ e);
-      timers = leb-true (getD s 2 0) 15 (and-left (leb (getD s 2 0) 15) _ low);
+      timers = leb-true (getD s 2 0) 31 (and-left (leb (getD s 2 0) 31) _ low);
       remembered = and-left (isRemembered (getD s 8 0)) _ a;
       zeros = rw (
         is-zero (getD s 9 0) _ a1,
@@ -165,9 +208,9 @@ Written s (Is x) = octetsOf x ≡ s
 Written s NoContext = Unit
 
 state-written : (s : List ℕ) → length s ≡ 16 → Kept s → (t : Numbered) → From (getD s 0 0) t → Written s (onState s t)
-unfolding octetsOf withState parametersAt timersAt
+unfolding octetsOf withState parametersAt
 state-written s l k (IsState state) f =
-    rw (f, four-back (getD s 1 0) (k .parameters), four-back (getD s 2 0) (k .timers), minded-from (getD s 8 0) (k .remembered), ← k .zeros) (sym (all-listed 16 s l))
+    rw (f, parameters-back (getD s 1 0) (k .parameters), timers-back (getD s 2 0) (k .timers), minded-from (getD s 8 0) (k .remembered), ← k .zeros) (sym (all-listed 16 s l))
 state-written s l k NoState f = tt
 
 pub written-read : (s : List ℕ) → length s ≡ 16 → Written s (contextOf s)

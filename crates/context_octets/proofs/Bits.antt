@@ -1,10 +1,12 @@
 -- Laws of four bits in a number: what the code computes from `bool as u8` fits an octet, and is the definition's number.
 use Prim.Native.Nat.{ℕ, _≤_, _<_, _+_, _*_}
-use mathlib.Core.Path.{_≡_, refl}
+use mathlib.Core.Path.{_≡_, refl, sym, _∙_}
 use mathlib.Core.Bool.{Bool, true, false}
 use native.Mathlib.Omega.{arith}
+use native.Mathlib.Nat.{zero-add}
 use mir.Val.{boolByte}
-use Rattle.context_octets.specs.Octets.{bit, fourNumber}
+use Rattle.timer.specs.declared.Timers.{Timers}
+use Rattle.context_octets.specs.Octets.{bit, fourNumber, timersNumber}
 
 byte-most : (set : Bool) → boolByte set ≤ 1
 byte-most true = omega arith
@@ -31,3 +33,22 @@ four-fit a b c d = omega (arith, byte-most a, byte-most b, byte-most c, byte-mos
 pub four-same : (a b c d : Bool) → 8 * boolByte a + 4 * boolByte b + 2 * boolByte c + boolByte d ≡ fourNumber a b c d
 unfolding fourNumber
 four-same a b c d = rw (byte-bit a, byte-bit b, byte-bit c, byte-bit d)
+
+-- Four bits are at most 15.
+pub bit-most : (set : Bool) → bit set ≤ 1
+bit-most true = omega arith
+bit-most false = omega arith
+
+pub four-most : (a b c d : Bool) → fourNumber a b c d ≤ 15
+unfolding fourNumber
+four-most a b c d = omega (arith, bit-most a, bit-most b, bit-most c, bit-most d)
+
+-- The timers' number, with T_pres and without.
+module _ (t : Timers) (four : ℕ) (is : four ≡ fourNumber (t .mmest) (t .term) (t .connreq) (t .nochannel)) where
+  pub with-sixteen : t .pres ≡ true → 16 + four ≡ timersNumber t
+  unfolding timersNumber
+  with-sixteen e = rw (e, is)
+
+  pub without-sixteen : t .pres ≡ false → four ≡ timersNumber t
+  unfolding timersNumber
+  without-sixteen e = rw e (is ∙ sym (zero-add _))

@@ -48,9 +48,18 @@ fourNumber eight four two one = 8 * bit eight + 4 * bit four + 2 * bit two + bit
 unfoldable pub parametersAt : ℕ → Parameters
 parametersAt n = record { orig = eqb (n / 8 % 2) 1; comm = eqb (n / 4 % 2) 1; datt = eqb (n / 2 % 2) 1; uatt = eqb (n % 2) 1 }
 
--- 8 T_MM-est + 4 T_term + 2 T_conn req + 1 T_no channel.
+-- 16 T_pres + 8 T_MM-est + 4 T_term + 2 T_conn req + 1 T_no channel.
 unfoldable pub timersAt : ℕ → Timers
-timersAt n = record { mmest = eqb (n / 8 % 2) 1; term = eqb (n / 4 % 2) 1; connreq = eqb (n / 2 % 2) 1; nochannel = eqb (n % 2) 1 }
+timersAt n = record {
+  mmest = eqb (n / 8 % 2) 1;
+  term = eqb (n / 4 % 2) 1;
+  connreq = eqb (n / 2 % 2) 1;
+  nochannel = eqb (n % 2) 1;
+  pres = eqb (n / 16 % 2) 1;
+}
+
+unfoldable pub timersNumber : Timers → ℕ
+timersNumber t = 16 * bit (t .pres) + fourNumber (t .mmest) (t .term) (t .connreq) (t .nochannel)
 
 -- What is remembered: 0 nothing, 2 U1, 3 U2. Any other number is none of these.
 abbrev pub remembereds : List (ℕ × Remembered)
@@ -62,11 +71,11 @@ rememberedAt number = rows number Remembered.Nothing remembereds
 unfoldable pub isRemembered : ℕ → Bool
 isRemembered number = eqb number 0 || (eqb number 2 || eqb number 3)
 
--- Parameters and timers are numbers below 16, something or nothing is remembered, and the last seven octets are zero.
+-- Parameters are a number below 16 and timers one below 32, something or nothing is remembered, and the last seven octets are zero.
 unfoldable pub isKept : List ℕ → Bool
 isKept s =
     leb (getD s 1 0) 15 &&
-    (leb (getD s 2 0) 15 &&
+    (leb (getD s 2 0) 31 &&
     ((isRemembered (getD s 8 0) && (eqb (getD s 9 0) 0 && (eqb (getD s 10 0) 0 && eqb (getD s 11 0) 0))) &&
     (eqb (getD s 12 0) 0 && (eqb (getD s 13 0) 0 && (eqb (getD s 14 0) 0 && eqb (getD s 15 0) 0)))))
 
@@ -93,11 +102,10 @@ contextOf s = cond (isKept s) (onState s (stateAt (getD s 0 0))) NoContext
 unfoldable pub octetsOf : Context → List ℕ
 octetsOf x =
     let p : Parameters = x .parameters in
-    let t : Timers = x .timers in
     let r : Reference = x .reference in
     numberOf (x .state) ∷
     fourNumber (p .orig) (p .comm) (p .datt) (p .uatt) ∷
-    fourNumber (t .mmest) (t .term) (t .connreq) (t .nochannel) ∷
+    timersNumber (x .timers) ∷
     x .value ∷
     r .first ∷ r .second ∷ r .third ∷ r .fourth ∷
     rememberedNumber (x .remembered) ∷

@@ -1,6 +1,6 @@
 // A context as the sixteen octets that a host in C keeps of it: read, where they are a context, and written.
 ghost use mathlib.Core.Path.{_≡_};
-ghost use Rattle.context_octets.specs.Octets.{contextOf, fourNumber, isKept, isRemembered, octetsOf, parametersAt, rememberedAt, stateAt, timersAt, withState};
+ghost use Rattle.context_octets.specs.Octets.{contextOf, fourNumber, isKept, isRemembered, octetsOf, parametersAt, rememberedAt, stateAt, timersAt, timersNumber, withState};
 use codes::attributes::Parameters;
 use codes::state::State;
 use context::Context;
@@ -49,7 +49,7 @@ fn parameters_at(number: u8) -> Parameters
     }
 }
 
-// 8 T_MM-est + 4 T_term + 2 T_conn req + 1 T_no channel, taken apart.
+// 16 T_pres + 8 T_MM-est + 4 T_term + 2 T_conn req + 1 T_no channel, taken apart.
 fn timers_at(number: u8) -> Timers
     ensures { λ r. ⌜ r ≡ timersAt number ⌝ }
 {
@@ -58,6 +58,7 @@ fn timers_at(number: u8) -> Timers
         term: number / 4 % 2 == 1,
         connreq: number / 2 % 2 == 1,
         nochannel: number % 2 == 1,
+        pres: number / 16 % 2 == 1,
     }
 }
 
@@ -66,6 +67,17 @@ fn four_number(eight: bool, four: bool, two: bool, one: bool) -> u8
     ensures { λ r. ⌜ r ≡ fourNumber eight four two one ⌝ }
 {
     8 * (eight as u8) + 4 * (four as u8) + 2 * (two as u8) + (one as u8)
+}
+
+// The timers that run, as a number.
+fn timers_number(timers: Timers) -> u8
+    ensures { λ r. ⌜ r ≡ timersNumber timers ⌝ }
+{
+    let four = four_number(timers.mmest, timers.term, timers.connreq, timers.nochannel);
+    if timers.pres {
+        return 16 + four;
+    }
+    four
 }
 
 // What is remembered, by its number.
@@ -86,14 +98,14 @@ fn is_remembered(number: u8) -> bool
     (number == 0) | ((number == 2) | (number == 3))
 }
 
-// Whether parameters and timers are below 16, something or nothing is remembered, and the last seven octets are zero.
+// Whether parameters are below 16 and timers below 32, something or nothing is remembered, and the last seven octets are zero.
 fn is_kept(octets: &[u8; 16]) -> bool
     ensures { λ r. ⌜ r ≡ isKept (now (octets .entry)) ⌝ }
 {
     let noted = is_remembered(octets[8]);
     let first = noted & ((octets[9] == 0) & ((octets[10] == 0) & (octets[11] == 0)));
     let last = (octets[12] == 0) & ((octets[13] == 0) & ((octets[14] == 0) & (octets[15] == 0)));
-    (octets[1] <= 15) & ((octets[2] <= 15) & (first & last))
+    (octets[1] <= 15) & ((octets[2] <= 31) & (first & last))
 }
 
 // The context of a state, and of the octets behind the state's.
@@ -142,7 +154,7 @@ pub fn write(context: Context, octets: &mut [u8; 16])
     let call = context.reference;
     let number = context::state_number(state) as u8;
     let parameters = four_number(set.orig, set.comm, set.datt, set.uatt);
-    let timers = four_number(run.mmest, run.term, run.connreq, run.nochannel);
+    let timers = timers_number(run);
     let remembered = context.remembered;
     let noted = context::remembered_number(remembered);
     *octets = [

@@ -10,7 +10,7 @@ use Rattle.log.specs.Layout.{Meant, versionBytes}
 use Rattle.recorder.specs.Recording.{added, afterwards, beginAnswer, recordAnswer}
 use Rattle.controller.specs.declared.numbering.NumberRead.{NumberRead}
 use Rattle.controller.specs.declared.recording.Used.{Used}
-use Rattle.step_numbers.specs.declared.Event.{Event}
+use Rattle.step_numbers.specs.declared.Occurrence.{Occurrence}
 use Rattle.step_numbers.specs.declared.Step.{Step}
 use Rattle.controller.specs.Numbering.{numberShown}
 use Rattle.controller.specs.Recording.{EntryRecorded, LogBegun, toldBy, usedOf}
@@ -23,7 +23,7 @@ pub begin-log-coincides : (log : List ℕ) (a b : Used) (e f : List ℕ) → Log
 begin-log-coincides log a b e f =
     both (usedOf 0 (beginAnswer newest log)) a b (afterwards log 0 (versionBytes newest) (beginAnswer newest log)) e f
 
-module _ (log message context reply : List ℕ) (used delta : ℕ) (event : Event) (step : Step) where
+module _ (log message context reply : List ℕ) (used delta : ℕ) (event : Occurrence) (step : Step) where
   abbrev told : Meant
   told = toldBy delta event message step context reply
 

@@ -4,7 +4,7 @@ ghost use lib.ListN.{length};
 ghost use Rattle.context.specs.Context.{cleared};
 ghost use Rattle.context_octets.specs.Octets.{octetsOf};
 ghost use Rattle.step_numbers.specs.Stepping.{Comes, callOf};
-use step_numbers::Event;
+use step_numbers::Occurrence;
 use step_numbers::Step;
 
 // The cleared context.
@@ -19,8 +19,8 @@ pub extern "C" fn heidezirkel_clear(context: &mut [u8; 16]) -> u32
 #[no_mangle]
 pub extern "C" fn heidezirkel_step(
     context: &mut [u8; 16],
-    settings: &[u8; 13],
-    event: Event,
+    settings: &[u8; 21],
+    event: Occurrence,
     message: &[u8],
     reply: &mut [u8],
 ) -> Step

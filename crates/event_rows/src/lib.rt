@@ -3,10 +3,11 @@ ghost use mathlib.Core.Path.{_≡_};
 ghost use mathlib.Core.Bool.{cond};
 ghost use Rattle.codes.specs.declared.state.State.the-variants.{U0, U0p, U1, U2, U3, U4, U5, U6};
 ghost use Rattle.transitions.specs.declared.Decision.the-variants.{Take, NoStep};
-ghost use Rattle.transitions.specs.declared.Send.the-variants.{TerminationRequest};
+ghost use Rattle.transitions.specs.declared.Send.the-variants.{Nothing, TerminationRequest};
+ghost use Rattle.transitions.specs.declared.Memory.the-variants.{Keep};
 ghost use Rattle.transitions.specs.declared.Stores.the-variants as Stores;
-ghost use Rattle.timer.specs.declared.Timer.the-variants.{MmEst, Term};
-ghost use Rattle.transitions.specs.Table.{asking, stepTable, happenedIn, decidedOf};
+ghost use Rattle.timer.specs.declared.Timer.the-variants.{NoTimer, MmEst, Term, ConnReq};
+ghost use Rattle.transitions.specs.Table.{asking, inviting, stepTable, happenedIn, decidedOf};
 use codes::state::State;
 use context::Context;
 use timer::Timer;
@@ -46,28 +47,6 @@ const ESTABLISHED: Decision = Decision::Take(Taken {
     sends: Send::Setup,
     stops: Timer::MmEst,
     sets: Timer::NoTimer,
-    stores: Stores::Nothing,
-    memory: Memory::Keep,
-});
-
-// 10, broadcast notified.
-const NOTIFIED: Decision = Decision::Take(Taken {
-    next: State::U3,
-    actions: 1,
-    sends: Send::Nothing,
-    stops: Timer::NoTimer,
-    sets: Timer::NoTimer,
-    stores: Stores::ValueAndReference,
-    memory: Memory::Keep,
-});
-
-// 3, join.
-const JOIN: Decision = Decision::Take(Taken {
-    next: State::U4,
-    actions: 4,
-    sends: Send::Nothing,
-    stops: Timer::NoTimer,
-    sets: Timer::ConnReq,
     stores: Stores::Nothing,
     memory: Memory::Keep,
 });
@@ -167,6 +146,7 @@ fn asking(table: Table) -> Memory
     match table {
         Table::First => Memory::Keep,
         Table::Second => Memory::Remember,
+        Table::Third => Memory::Remember,
     }
 }
 
@@ -199,6 +179,61 @@ fn where_true(holds: bool, taken: Decision) -> Decision
     Decision::NoStep
 }
 
+// The timer of an invitation: from the third table on T_pres.
+fn inviting(table: Table) -> Timer
+    ensures { λ r. ⌜ r ≡ inviting table ⌝ }
+{
+    match table {
+        Table::First => Timer::NoTimer,
+        Table::Second => Timer::NoTimer,
+        Table::Third => Timer::Pres,
+    }
+}
+
+// 10, broadcast notified.
+fn notified(table: Table) -> Decision
+    ensures { λ r. ⌜ r ≡ Take (record { next = U3; actions = 1; sends = Nothing; stops = NoTimer; sets = inviting table; stores = Stores.ValueAndReference; memory = Keep }) ⌝ }
+{
+    let sets = inviting(table);
+    Decision::Take(Taken {
+        next: State::U3,
+        actions: 1,
+        sends: Send::Nothing,
+        stops: Timer::NoTimer,
+        sets,
+        stores: Stores::ValueAndReference,
+        memory: Memory::Keep,
+    })
+}
+
+// 3, join.
+fn joined(table: Table) -> Decision
+    ensures { λ r. ⌜ r ≡ Take (record { next = U4; actions = 4; sends = Nothing; stops = inviting table; sets = ConnReq; stores = Stores.Nothing; memory = Keep }) ⌝ }
+{
+    let stops = inviting(table);
+    Decision::Take(Taken {
+        next: State::U4,
+        actions: 4,
+        sends: Send::Nothing,
+        stops,
+        sets: Timer::ConnReq,
+        stores: Stores::Nothing,
+        memory: Memory::Keep,
+    })
+}
+
+// 19, expiry of T_pres: the invitation is forgotten. The first two tables have no such row.
+fn forgotten(table: Table, context: Context) -> Decision
+    ensures { λ r. ⌜ r ≡ happenedIn (stepTable table) U3 context 19 ⌝ }
+{
+    let timers = context.timers;
+    match table {
+        Table::First => Decision::NoStep,
+        Table::Second => Decision::NoStep,
+        Table::Third => where_true(timers.pres, ENDS),
+    }
+}
+
 // No channel in U6.
 fn no_channel_in_u6(table: Table, context: Context) -> Decision
     ensures { λ r. ⌜ r ≡ happenedIn (stepTable table) U6 context 12 ⌝ }
@@ -216,7 +251,7 @@ fn in_u0(table: Table, context: Context, number: u8) -> Decision
     match number {
         1 => SET_UP,
         2 => IMMEDIATE_SET_UP,
-        10 => NOTIFIED,
+        10 => notified(table),
         0..=0 | 3..=9 | 11..=255 => Decision::NoStep,
     }
 }
@@ -268,11 +303,12 @@ fn in_u3(table: Table, context: Context, number: u8) -> Decision
     ensures { λ r. ⌜ r ≡ happenedIn (stepTable table) U3 context number ⌝ }
 {
     match number {
-        3 => JOIN,
+        3 => joined(table),
+        19 => forgotten(table, context),
         5 => ENDS_RELEASING,
         9 => ENDS_INFORMING_ABORTING,
         8 => ENDS_INFORMING_ABORTING,
-        0..=2 | 4..=4 | 6..=7 | 10..=255 => Decision::NoStep,
+        0..=2 | 4..=4 | 6..=7 | 10..=18 | 20..=255 => Decision::NoStep,
     }
 }
 

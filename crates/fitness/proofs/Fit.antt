@@ -64,8 +64,8 @@ fit-u0 d x fit e =
     let all : isCleared x ≡ true = if-so _ _ (fit-cleared d x fit) s in
     let p = and-left (not (x .parameters .orig) && (not (x .parameters .comm) && (not (x .parameters .datt) && not (x .parameters .uatt)))) _ all in
     let q = and-right (not (x .parameters .orig) && (not (x .parameters .comm) && (not (x .parameters .datt) && not (x .parameters .uatt)))) _ all in
-    let t = and-left (not (x .timers .mmest) && (not (x .timers .term) && (not (x .timers .connreq) && not (x .timers .nochannel)))) _ q in
-    let n = and-right (not (x .timers .mmest) && (not (x .timers .term) && (not (x .timers .connreq) && not (x .timers .nochannel)))) _ q in
+    let t = and-left (not (x .timers .mmest) && (not (x .timers .term) && (not (x .timers .connreq) && (not (x .timers .nochannel) && not (x .timers .pres))))) _ q in
+    let n = and-right (not (x .timers .mmest) && (not (x .timers .term) && (not (x .timers .connreq) && (not (x .timers .nochannel) && not (x .timers .pres))))) _ q in
     let w = and-right (eqb (x .value) 0) _ n in
     let z = and-left (eqb (x .reference .first) 0 && (eqb (x .reference .second) 0 && (eqb (x .reference .third) 0 && eqb (x .reference .fourth) 0))) _ w in
     let m = and-right (eqb (x .reference .first) 0 && (eqb (x .reference .second) 0 && (eqb (x .reference .third) 0 && eqb (x .reference .fourth) 0))) _ w in
@@ -73,6 +73,7 @@ fit-u0 d x fit e =
     let p2 = and-right (not (x .parameters .comm)) _ p1 in
     let t1 = and-right (not (x .timers .mmest)) _ t in
     let t2 = and-right (not (x .timers .term)) _ t1 in
+    let t3 = and-right (not (x .timers .connreq)) _ t2 in
     let z1 = and-right (eqb (x .reference .first) 0) _ z in
     let z2 = and-right (eqb (x .reference .second) 0) _ z1 in
     rw (
@@ -84,7 +85,8 @@ fit-u0 d x fit e =
       none (x .timers .mmest) (and-left (not (x .timers .mmest)) _ t),
       none (x .timers .term) (and-left (not (x .timers .term)) _ t1),
       none (x .timers .connreq) (and-left (not (x .timers .connreq)) _ t2),
-      none (x .timers .nochannel) (and-right (not (x .timers .connreq)) _ t2),
+      none (x .timers .nochannel) (and-left (not (x .timers .nochannel)) _ t3),
+      none (x .timers .pres) (and-right (not (x .timers .nochannel)) _ t3),
       eqb-true (x .value) 0 (and-left (eqb (x .value) 0) _ n),
       eqb-true (x .reference .first) 0 (and-left (eqb (x .reference .first) 0) _ z),
       eqb-true (x .reference .second) 0 (and-left (eqb (x .reference .second) 0) _ z1),

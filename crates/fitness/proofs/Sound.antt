@@ -8,7 +8,7 @@ use Rattle.codes.specs.declared.state.State.{State}
 use Rattle.codes.specs.declared.state.State.the-variants.{U0}
 use Rattle.codes.specs.declared.attributes.Parameters.{Parameters}
 use Rattle.timer.specs.declared.Timer.{Timer}
-use Rattle.timer.specs.declared.Timer.the-variants.{MmEst, Term, ConnReq, NoChannel}
+use Rattle.timer.specs.declared.Timer.the-variants.{MmEst, Term, ConnReq, NoChannel, Pres}
 use Rattle.timer.specs.declared.Timers.{Timers}
 use Rattle.timer.specs.Timers.{isOn, howMany, noTimers, alone}
 use Rattle.timer.proofs.Few.{within, few-within, few-alone}
@@ -33,6 +33,7 @@ allowed d s = record {
   term = may (whenRuns Term s (d .timers));
   connreq = may (whenRuns ConnReq s (d .timers));
   nochannel = may (whenRuns NoChannel s (d .timers));
+  pres = may (whenRuns Pres s (d .timers));
 }
 
 -- In each state at most one timer may run; none must in U0, where nothing is remembered; and entering a state, from whatever parameters, gives consistent ones.
@@ -58,12 +59,15 @@ fit-within d s t e =
     let term = whenRuns Term s (d .timers) in
     let connreq = whenRuns ConnReq s (d .timers) in
     let nochannel = whenRuns NoChannel s (d .timers) in
+    let pres = whenRuns Pres s (d .timers) in
     let e2 = and-right (obeys mmest (t .mmest)) _ e in
     let e3 = and-right (obeys term (t .term)) _ e2 in
+    let e4 = and-right (obeys connreq (t .connreq)) _ e3 in
     and-both _ _ (obeyed mmest (t .mmest) (and-left (obeys mmest (t .mmest)) _ e))
     (and-both _ _ (obeyed term (t .term) (and-left (obeys term (t .term)) _ e2))
     (and-both _ _ (obeyed connreq (t .connreq) (and-left (obeys connreq (t .connreq)) _ e3))
-    (obeyed nochannel (t .nochannel) (and-right (obeys connreq (t .connreq)) _ e3))))
+    (and-both _ _ (obeyed nochannel (t .nochannel) (and-left (obeys nochannel (t .nochannel)) _ e4))
+    (obeyed pres (t .pres) (and-right (obeys nochannel (t .nochannel)) _ e4)))))
 
 module _ (d : Fitness) (sound : Sound d) where
   few : (x : Context) → fitBy d x ≡ true → leb (howMany (x .timers)) 1 ≡ true

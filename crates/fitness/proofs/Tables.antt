@@ -11,7 +11,7 @@ use Rattle.context.specs.declared.Context.{Context}
 use Rattle.context.specs.States.{same}
 use Rattle.context.specs.Context.{startRow, entering, cleared}
 use Rattle.version.specs.declared.Table.{Table}
-use Rattle.version.specs.declared.Table.the-variants.{First, Second}
+use Rattle.version.specs.declared.Table.the-variants.{First, Second, Third}
 use Rattle.fitness.specs.Fitness.{consistentBy, timersFitBy, rememberedFitBy, isCleared}
 use Rattle.fitness.specs.Tables.{fitnessOf, consistent, timersFit, fitOf}
 use Rattle.fitness.proofs.Fit as any
@@ -21,6 +21,7 @@ pub fitness-sound : (table : Table) → sound.Sound (fitnessOf table)
 unfolding fitnessOf timersFitBy rememberedFitBy consistentBy entering startRow
 fitness-sound First = record { one-timer = refl; quiet = refl; blank = refl; entered = refl }
 fitness-sound Second = record { one-timer = refl; quiet = refl; blank = refl; entered = refl }
+fitness-sound Third = record { one-timer = refl; quiet = refl; blank = refl; entered = refl }
 
 module _ (table : Table) where
   -- At most one timer runs in a fit context.

@@ -4,22 +4,30 @@ use mathlib.Core.Bool.{Bool}
 use Rattle.codes.specs.declared.state.State.{State}
 use Rattle.codes.specs.declared.state.State.the-variants.{U0, U0p, U1, U3, U4, U5, U6}
 use Rattle.codes.specs.declared.attributes.Parameters.{Parameters}
-use Rattle.timer.specs.declared.Timer.the-variants.{MmEst, Term, ConnReq, NoChannel}
+use Rattle.timer.specs.declared.Timer.the-variants.{MmEst, Term, ConnReq, NoChannel, Pres}
 use Rattle.timer.specs.declared.Timers.{Timers}
 use Rattle.context.specs.declared.Context.{Context}
 use Rattle.version.specs.declared.Table.{Table}
-use Rattle.version.specs.declared.Table.the-variants.{First, Second}
-use Rattle.fitness.specs.Fitness.{Fitness, Runs, always, optionally, ORIG, COMM, consistentBy, timersFitBy, fitBy}
+use Rattle.version.specs.declared.Table.the-variants.{First, Second, Third}
+use Rattle.fitness.specs.Fitness.{Fitness, Runs, always, optionally, never, ORIG, COMM, consistentBy, timersFitBy, fitBy}
 
 -- What differs: in the first table T_term runs in U5 optionally, and nothing is remembered anywhere. From the second on, "T_term now always runs in U5", and
--- the context remembers where the termination was asked from in U5, and "nothing is remembered outside U5".
+-- the context remembers where the termination was asked from in U5, and "nothing is remembered outside U5". In the third the timer of an invitation "always runs in
+-- U3"; "versions 1 and 2 keep their own "fit", with U3 untimed".
 abbrev pub termRuns : Table → Runs
 termRuns First = optionally
 termRuns Second = always
+termRuns Third = always
+
+abbrev pub invitationRuns : Table → Runs
+invitationRuns First = never
+invitationRuns Second = never
+invitationRuns Third = always
 
 abbrev pub rememberingStates : Table → List State
 rememberingStates First = []
 rememberingStates Second = U5 ∷ []
+rememberingStates Third = U5 ∷ []
 
 -- The table of timers, its last column; and 6.1.2.1.11.
 unfoldable pub fitnessOf : Table → Fitness
@@ -29,6 +37,7 @@ fitnessOf table = record {
       (Term, (U5, termRuns table) ∷ []) ∷
       (ConnReq, (U4, always) ∷ []) ∷
       (NoChannel, (U6, optionally) ∷ []) ∷
+      (Pres, (U3, invitationRuns table) ∷ []) ∷
       [];
   wrong =
       (ORIG, U3 ∷ U4 ∷ U6 ∷ []) ∷

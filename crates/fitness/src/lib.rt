@@ -1,11 +1,11 @@
 // Which contexts are fit, and which parameters are consistent with a state, by a step table.
 ghost use mathlib.Core.Path.{_≡_};
 ghost use mathlib.Core.Bool.{false, _&&_};
-ghost use Rattle.codes.specs.declared.state.State.the-variants.{U5};
+ghost use Rattle.codes.specs.declared.state.State.the-variants.{U3, U5};
 ghost use Rattle.context.specs.States.{among};
 ghost use Rattle.context.specs.Remembered.{isSomething};
 ghost use Rattle.fitness.specs.Fitness.{obeys, consistentBy, timersFitBy, rememberedFitBy, isCleared, fitBy};
-ghost use Rattle.fitness.specs.Tables.{fitnessOf, termRuns, rememberingStates};
+ghost use Rattle.fitness.specs.Tables.{fitnessOf, termRuns, invitationRuns, rememberingStates};
 use codes::attributes::Parameters;
 use codes::state::State;
 use context::Context;
@@ -43,7 +43,27 @@ fn term_fits(table: Table, running: bool) -> bool
     match table {
         Table::First => true,
         Table::Second => running,
+        Table::Third => running,
     }
+}
+
+// Whether T_pres may run, or not, in U3.
+fn invitation_fits(table: Table, running: bool) -> bool
+    ensures { λ r. ⌜ r ≡ obeys (invitationRuns table) running ⌝ }
+{
+    match table {
+        Table::First => !running,
+        Table::Second => !running,
+        Table::Third => running,
+    }
+}
+
+// Whether the timers that run are those of U3.
+fn timers_fit_u3(table: Table, timers: Timers) -> bool
+    ensures { λ r. ⌜ r ≡ timersFitBy (fitnessOf table) U3 timers ⌝ }
+{
+    let invitation = invitation_fits(table, timers.pres);
+    !timers.mmest & (!timers.term & (!timers.connreq & (!timers.nochannel & invitation)))
 }
 
 // Whether the timers that run are those of U5.
@@ -51,7 +71,7 @@ fn timers_fit_u5(table: Table, timers: Timers) -> bool
     ensures { λ r. ⌜ r ≡ timersFitBy (fitnessOf table) U5 timers ⌝ }
 {
     let term = term_fits(table, timers.term);
-    !timers.mmest & (term & (!timers.connreq & !timers.nochannel))
+    !timers.mmest & (term & (!timers.connreq & (!timers.nochannel & !timers.pres)))
 }
 
 // Whether something is remembered.
@@ -72,6 +92,7 @@ fn remembers(table: Table, state: State) -> bool
     match table {
         Table::First => false,
         Table::Second => context::state_number(state) == 6,
+        Table::Third => context::state_number(state) == 6,
     }
 }
 
@@ -91,14 +112,18 @@ fn timers_fit(table: Table, state: State, timers: Timers) -> bool
     ensures { λ r. ⌜ r ≡ timersFitBy (fitnessOf table) state timers ⌝ }
 {
     match state {
-        State::U0 => !timers.mmest & (!timers.term & (!timers.connreq & !timers.nochannel)),
-        State::U0p => timers.mmest & (!timers.term & (!timers.connreq & !timers.nochannel)),
-        State::U1 => !timers.term & (!timers.connreq & !timers.nochannel),
-        State::U2 => !timers.mmest & (!timers.term & (!timers.connreq & !timers.nochannel)),
-        State::U3 => !timers.mmest & (!timers.term & (!timers.connreq & !timers.nochannel)),
-        State::U4 => !timers.mmest & (!timers.term & (timers.connreq & !timers.nochannel)),
+        State::U0 => !timers.mmest
+            & (!timers.term & (!timers.connreq & (!timers.nochannel & !timers.pres))),
+        State::U0p => timers.mmest
+            & (!timers.term & (!timers.connreq & (!timers.nochannel & !timers.pres))),
+        State::U1 => !timers.term & (!timers.connreq & (!timers.nochannel & !timers.pres)),
+        State::U2 => !timers.mmest
+            & (!timers.term & (!timers.connreq & (!timers.nochannel & !timers.pres))),
+        State::U3 => timers_fit_u3(table, timers),
+        State::U4 => !timers.mmest
+            & (!timers.term & (timers.connreq & (!timers.nochannel & !timers.pres))),
         State::U5 => timers_fit_u5(table, timers),
-        State::U6 => !timers.mmest & (!timers.term & (!timers.connreq & true)),
+        State::U6 => !timers.mmest & (!timers.term & (!timers.connreq & !timers.pres)),
     }
 }
 
@@ -110,7 +135,8 @@ fn is_cleared(context: Context) -> bool
     let timers = context.timers;
     let reference = context.reference;
     let none_set = !parameters.orig & (!parameters.comm & (!parameters.datt & !parameters.uatt));
-    let none_runs = !timers.mmest & (!timers.term & (!timers.connreq & !timers.nochannel));
+    let none_runs = !timers.mmest
+        & (!timers.term & (!timers.connreq & (!timers.nochannel & !timers.pres)));
     let zero = (reference.first == 0)
         & ((reference.second == 0) & ((reference.third == 0) & (reference.fourth == 0)));
     let remembered = context.remembered;

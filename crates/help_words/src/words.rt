@@ -50,11 +50,13 @@ fn tell_show_help() {
 fn tell_judge_help() {
     tell(
         b"usage: heidezirkel judge SETTINGS LOG\n\
-          Says whether one joining timer, the same all through, explains every entry of the log from a cleared context,\n\
-          and which timers do; or the first entry that can't be read or up to which none does, what it claims, and what the\n\
-          step gives or which time rule it breaks. A settings file that is refused stops it at its line.\n\
-          A log is judged by the rules of its version, which is told last: after a rejected termination the radio stays in U5 in version 1,\n\
-          and in version 2 is back in the state that it asked from. A log of another version is refused.\n\
+          Says whether one joining timer and, in a log of version 3, one invitation timer, the same all through, explain every entry of\n\
+          the log from a cleared context, which timers do, and whether those of the settings are among them; or the first entry that\n\
+          can't be read or up to which none do, what it claims, and what the step gives or which time rule it breaks.\n\
+          A settings file that is refused stops it at its line.\n\
+          A log is judged by the rules of its version, which is told last. After a rejected termination the radio stays in U5 in version 1,\n\
+          and from version 2 on is back in the state that it asked from. From version 3 on an invitation that nobody joins is forgotten\n\
+          when its timer ends. A log of another version is refused.\n\
           Exit status: 0 accepted, 1 refused, 2 a file can't be opened.\n",
     );
 }
@@ -87,14 +89,14 @@ fn tell_record_help() {
     tell(
         b"usage: heidezirkel record SETTINGS SCRIPT LOG\n\
           Takes each event of the script through the step of a radio with these settings, from a cleared context, and writes what\n\
-          the step gives to a new file LOG, a log of version 2. It judges no time: a script may tell of a radio whose timer runs wrong.\n\
+          the step gives to a new file LOG, a log of version 3. It judges no time: a script may tell of a radio whose timer runs wrong.\n\
           A line of the script: TIME EVENT [DATA..], words parted by spaces. A line that starts with # and an empty one say nothing.\n  \
           TIME    milliseconds from the start of the log; it never goes back\n  \
           EVENT   set-up-request, immediate-set-up-request, broadcast-notified: DATA value=N reference=H,\n          \
           N 0 to 6, H 8 hexadecimal digits\n          \
           message: DATA acknowledged or unacknowledged, then the octets in hexadecimal words, which are joined\n          \
           join, terminate, release, mm-established, mm-failed, link-failure, abort, receive-mode-entered, no-channel,\n          \
-          channel-available, t-mm-est-expired, t-term-expired, t-conn-req-expired, t-no-channel-expired: no DATA\n\
+          channel-available, t-mm-est-expired, t-term-expired, t-conn-req-expired, t-no-channel-expired, t-pres-expired: no DATA\n\
           A line that can't be read, or whose step gives an answer that no log holds, is told with what is wanted, and no log is made.\n\
           Each message that is recorded as ignored is told, with the reason.\n\
           Exit status: 0 the log is made, 1 the settings or the script are refused, 2 a file can't be opened or written.\n",
@@ -105,9 +107,9 @@ fn tell_timeline_help() {
     tell(
         b"usage: heidezirkel timeline LOG FILE.svg\n\
           Draws what a log holds into a new file, an SVG picture that browsers show and print: time along, states as bars,\n\
-          entries and messages as marks, the time within which the joining timer ends, and a list in words, which says too where\n\
-          a rejected termination leads back to. It shows what the log claims, and its version, and judges nothing. An entry that\n\
-          can't be read ends the picture and is told on standard error.\n\
+          entries and messages as marks, the time within which the joining timer ends and, in a log of version 3, the invitation timer,\n\
+          and a list in words, which says too where a rejected termination leads back to. It shows what the log claims, and its version,\n\
+          and judges nothing. An entry that can't be read ends the picture and is told on standard error.\n\
           Exit status: 0 every entry is read, 1 one is not, 2 a file can't be opened or made.\n",
     );
 }

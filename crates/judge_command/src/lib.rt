@@ -8,6 +8,8 @@ use text::output::Output;
 use text::words::Words;
 use text::words::finished;
 use text::words::part;
+use timer::Window;
+use verdict::Invitation;
 use verdict::Judged;
 
 // `judge CKSN CLASSMARK IDENTITY LOG`.
@@ -40,13 +42,27 @@ fn say_judged(buffer: &mut [u8], output: Output, judged: Judged) -> Output {
         Judged::OutOfRange => say(buffer, output, b"4\n"),
         Judged::Unreadable(entry) => say_entry(buffer, output, b"8 ", entry),
         Judged::Unexplained(entry) => say_entry(buffer, output, b"9 ", entry),
-        Judged::Accepted(entries, least, greatest) => {
+        Judged::Accepted(entries, joining, invitation) => {
             let count = say_part(buffer, output, b"0 ", entries as u64);
-            let low = say_part(buffer, count, b" ", least);
-            let high = say_part(buffer, low, b" ", greatest);
-            say(buffer, high, b"\n")
+            let first = say_window(buffer, count, joining);
+            let both = say_invitation(buffer, first, invitation);
+            say(buffer, both, b"\n")
         }
     }
+}
+
+// The invitation timers, where the log's version has them.
+fn say_invitation(buffer: &mut [u8], output: Output, invitation: Invitation) -> Output {
+    match invitation {
+        Invitation::Untold => output,
+        Invitation::Told(window) => say_window(buffer, output, window),
+    }
+}
+
+// The least and the greatest of the timers that explain the log.
+fn say_window(buffer: &mut [u8], output: Output, window: Window) -> Output {
+    let least = say_part(buffer, output, b" ", window.least);
+    say_part(buffer, least, b" ", window.greatest)
 }
 
 fn say_entry(buffer: &mut [u8], output: Output, answer: &[u8], entry: usize) -> Output {

@@ -4,22 +4,38 @@ use mathlib.Core.Path.{_≡_, sym, ap, subst, _∙_}
 use mathlib.Core.List.{List}
 use native.Mathlib.Omega.{arith}
 use Rattle.octets.specs.Run.{part}
+use Rattle.octets.proofs.Choice.{at-cond}
 use Rattle.element.specs.declared.Run.{Run}
 use Rattle.reply.specs.declared.Own.{Own}
-use Rattle.timer.specs.Timers.{joiningGreatest}
+use Rattle.timer.specs.declared.Window.{Window}
+use Rattle.timer.specs.Timers.{invitationGreatest}
+use Rattle.version.specs.declared.Table.{Table}
+use Rattle.table.specs.Timers.{Interval}
+use Rattle.verdict.specs.declared.Invitation.{Invitation}
+use Rattle.verdict.specs.declared.Invitation.the-variants.{Untold, Told}
+use Rattle.verdict.specs.Table.{tellsInvitation}
 use Rattle.verdict.specs.declared.Judged.{Judged}
 use Rattle.verdict.specs.declared.Judged.the-variants.{Accepted, Unreadable, Unexplained, TooLong, OutOfRange}
-use Rattle.verdict.specs.Judge.{judgeOf}
+use Rattle.verdict.specs.Judge.{windowOf, invitationTold, judgeOf}
 use Rattle.verdict.specs.Demand.{Means}
 use Rattle.verdict.proofs.Demand.{judge-means}
 use Rattle.settings_octets.specs.Octets.{identityOf, identityRun, ownOf}
 use Rattle.judge_numbers.specs.declared.Judgement.{Judgement}
-use Rattle.judge_numbers.specs.Judging.{Timed, judgementOf}
+use Rattle.judge_numbers.specs.Judging.{Fits, Timed, windowTold, acceptedWith, judgementOf}
 
 module _ (own : Own) (identity s : List ℕ) where
+  -- What is told of invitation timers in range fits.
+  told-fits : (table : Table) (j : Interval) → j .least ≤ invitationGreatest → j .greatest ≤ invitationGreatest → Fits (windowTold (invitationTold table j))
+  unfolding invitationTold windowTold
+  told-fits table j l g = at-cond (λ i. Fits (windowTold i)) (tellsInvitation table) (Told (windowOf j)) Untold (λ t. (l, g)) (λ t. (omega arith, omega arith))
+
   means-timed : (v : Judged) → Means own identity s v → Timed v
-  means-timed (Accepted n least greatest) m =
-      (m .1 .between least (omega arith) (m .1 .ordered) .0 .1, m .1 .between greatest (m .1 .ordered) (omega arith) .0 .1)
+  means-timed (Accepted n joining invitation) (b, j, m, told) =
+      let low = m .between (joining .least) (j .least) (omega arith, m .first-ordered) (omega arith, m .second-ordered) .0 in
+      let high = m .between (joining .greatest) (j .greatest) (m .first-ordered, omega arith) (m .second-ordered, omega arith) .0 in (
+        (omega (arith, low .0), omega (arith, high .0)),
+        subst (λ i. Fits (windowTold i)) (sym told) (told-fits (b .table) j (low .1 .1) (high .1 .1)),
+      )
   means-timed (Unreadable n) m = tt
   means-timed (Unexplained n) m = tt
   means-timed TooLong m = tt
@@ -29,8 +45,14 @@ module _ (own : Own) (identity s : List ℕ) where
   pub judged-timed : (v : Judged) → v ≡ judgeOf own identity s → Timed v
   judged-timed v e = subst Timed (sym e) (means-timed (judgeOf own identity s) (judge-means own identity s))
 
-pub accepted-timed : (v : Judged) (n least greatest : ℕ) → Timed v → v ≡ Accepted n least greatest → (least ≤ joiningGreatest) × (greatest ≤ joiningGreatest)
-accepted-timed v n least greatest t e = subst Timed e t
+pub accepted-timed : (v : Judged) (n : ℕ) (joining : Window) (invitation : Invitation) → Timed v → v ≡ Accepted n joining invitation → Fits joining × Fits (windowTold invitation)
+accepted-timed v n joining invitation t e = subst Timed e t
+
+-- An accepted log in C's numbers.
+pub accepted-judgement : (v : Judged) (n : ℕ) (joining : Window) (invitation : Invitation) → v ≡ Accepted n joining invitation → (w : Window) → w ≡ windowTold invitation
+    → (r : Judgement) → r ≡ acceptedWith n joining w → r ≡ judgementOf v
+unfolding judgementOf
+accepted-judgement v n joining invitation e w t r q = q ∙ rw (e, t)
 
 -- A part from a start to an end is the run.
 pub judged-run : (own : Own) (s log : List ℕ) (start count : ℕ) (v : Judged) → v ≡ judgeOf own (part s start (start + count - start)) log

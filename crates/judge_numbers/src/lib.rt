@@ -5,9 +5,11 @@ ghost use lib.ListN.{length};
 ghost use Rattle.octets.specs.Run.{part};
 ghost use Rattle.verdict.specs.Judge.{judgeOf};
 ghost use Rattle.settings_octets.specs.Octets.{identityOf, ownOf};
-ghost use Rattle.judge_numbers.specs.Judging.{Timed, atEntry, judgementOf};
+ghost use Rattle.judge_numbers.specs.Judging.{Fits, Timed, acceptedWith, atEntry, judgementOf, windowTold};
 use element::Run;
 use reply::Own;
+use timer::Window;
+use verdict::Invitation;
 use verdict::Judged;
 
 #[repr(C)]
@@ -16,6 +18,8 @@ pub struct Judgement {
     pub entry: usize,
     pub least: u32,
     pub greatest: u32,
+    pub invitation_least: u32,
+    pub invitation_greatest: u32,
 }
 
 // An answer with an entry, and no timers.
@@ -27,6 +31,36 @@ fn at_entry(answer: u32, entry: usize) -> Judgement
         entry,
         least: 0,
         greatest: 0,
+        invitation_least: 0,
+        invitation_greatest: 0,
+    }
+}
+
+// The invitation timers that are told; where none are, from 0 to 0.
+fn window_told(invitation: Invitation) -> Window
+    ensures { λ r. ⌜ r ≡ windowTold invitation ⌝ }
+{
+    match invitation {
+        Invitation::Untold => Window {
+            least: 0,
+            greatest: 0,
+        },
+        Invitation::Told(window) => window,
+    }
+}
+
+// An accepted log, with the joining timers and the invitation timers that are told.
+fn accepted_with(count: usize, joining: Window, invitation: Window) -> Judgement
+    requires { ⌜ Fits joining × Fits invitation ⌝ }
+    ensures { λ r. ⌜ r ≡ acceptedWith count joining invitation ⌝ }
+{
+    Judgement {
+        answer: 0,
+        entry: count,
+        least: joining.least as u32,
+        greatest: joining.greatest as u32,
+        invitation_least: invitation.least as u32,
+        invitation_greatest: invitation.greatest as u32,
     }
 }
 
@@ -36,12 +70,9 @@ fn judgement_of(judged: Judged) -> Judgement
     ensures { λ r. ⌜ r ≡ judgementOf judged ⌝ }
 {
     match judged {
-        Judged::Accepted(count, least, greatest) => Judgement {
-            answer: 0,
-            entry: count,
-            least: least as u32,
-            greatest: greatest as u32,
-        },
+        Judged::Accepted(count, joining, invitation) => {
+            accepted_with(count, joining, window_told(invitation))
+        }
         Judged::Unreadable(entry) => at_entry(8, entry),
         Judged::Unexplained(entry) => at_entry(9, entry),
         Judged::TooLong => at_entry(10, 0),
@@ -59,8 +90,8 @@ fn judged(own: Own, settings: &[u8], run: Run, log: &[u8]) -> Judged
     judge::judge(own, &settings[start..end], log)
 }
 
-// The log judge over thirteen octets of settings.
-pub fn judge_log(settings: &[u8; 13], log: &[u8]) -> Judgement
+// The log judge over twenty-one octets of settings.
+pub fn judge_log(settings: &[u8; 21], log: &[u8]) -> Judgement
     ensures { λ r. ⌜ r ≡ judgementOf (judgeOf (ownOf (now (settings .entry))) (identityOf (now (settings .entry))) (now (log .entry))) ⌝ }
 {
     let own = settings_octets::own_of(settings);

@@ -3,13 +3,15 @@ use Prim.Native.Nat.{ℕ, _+_, _-_, _≤_}
 use mathlib.Core.Path.{_≡_, refl, sym, _∙_}
 use mathlib.Core.Bool.{Bool, true, false, _||_}
 use lib.Dec.{eqb, ltb}
-use borrow.Author.Tests.{ltb-false, le-ltb}
+use borrow.Author.Tests.{ltb-false, le-ltb, ne-eqb}
 use Rattle.octets.proofs.Choice.{never}
-use Rattle.timer.specs.Timers.{expiryOf}
+use Rattle.timer.specs.declared.Timer.the-variants.{ConnReq, Pres}
+use Rattle.timer.specs.declared.Window.{Window}
+use Rattle.timer.specs.Timers.{timerNumber, expiryOf}
 use Rattle.judge_time.specs.declared.Clock.{Clock}
 use Rattle.judge_time.specs.declared.Ticked.{Ticked}
-use Rattle.judge_time.specs.declared.Ticked.the-variants.{OutOfTime, Astray}
-use Rattle.judge_time.specs.Clock.{astray, untimelyAt, leastLeft, greatestLeft, startedAt, leftWith, tickOf}
+use Rattle.judge_time.specs.declared.Ticked.the-variants.{Onward, OutOfTime, Astray}
+use Rattle.judge_time.specs.Clock.{astray, untimelyAt, windowLeft, startedAt, leftWith, whileRunning, tickOf}
 
 -- ---- astray
 
@@ -30,6 +32,19 @@ pub not-astray : (time started : ℕ) → time ≤ 5662310400000 → started ≤
 unfolding astray
 not-astray time started h k = rw (le-ltb 5662310400000 time h, le-ltb time started k)
 
+-- ---- the ways of a tick while a timer runs
+
+module _ (joining invitation : Window) (timer age : ℕ) (ends : Bool) (time started : ℕ) where
+  pub rule-broken : untimelyAt timer age ends ≡ true → OutOfTime ≡ whileRunning joining invitation timer age ends time started
+  unfolding whileRunning
+  rule-broken u = rw u
+
+  pub rule-kept : untimelyAt timer age ends ≡ false → (a b : ℕ) → a ≡ timerNumber ConnReq → b ≡ timerNumber Pres
+      → (i j : Window) → i ≡ windowLeft (eqb timer a) age ends joining → j ≡ windowLeft (eqb timer b) age ends invitation
+      → (v : Ticked) → v ≡ leftWith i j time started → v ≡ whileRunning joining invitation timer age ends time started
+  unfolding whileRunning
+  rule-kept u a b p q i j k l v w = w ∙ rw (u, k, l, p, q)
+
 -- ---- the ways of a tick
 
 module _ (c : Clock) (before after delta event : ℕ) where
@@ -37,21 +52,12 @@ module _ (c : Clock) (before after delta event : ℕ) where
   unfolding tickOf
   goes-astray a = rw a
 
-  module _ (a : astray (c .time) (c .started) ≡ false) where
-    abbrev age : ℕ
-    age = c .time + delta - c .started
-
-    pub is-late : (expiry : ℕ) → expiry ≡ expiryOf event → untimelyAt before age (eqb expiry before) ≡ true → OutOfTime ≡ tickOf c before after delta event
+  module _ (a : astray (c .time) (c .started) ≡ false) (started : ℕ) (p : started ≡ startedAt before after (c .started) (c .time + delta)) where
+    pub none-runs : before ≡ 0 → Onward (record { time = c .time + delta; started = started; joining = c .joining; invitation = c .invitation }) ≡ tickOf c before after delta event
     unfolding tickOf
-    is-late expiry e u = rw (a, ← e, u)
+    none-runs z = rw (a, ← p, z)
 
-    module _ (started : ℕ) (p : started ≡ startedAt before after (c .started) (c .time + delta)) (v : Ticked) where
-      pub none-runs : before ≡ 0 → v ≡ leftWith (c .least) (c .greatest) (c .time + delta) started → v ≡ tickOf c before after delta event
-      unfolding tickOf untimelyAt leastLeft greatestLeft
-      none-runs z k = k ∙ rw (a, ← p, z)
-
-      pub goes-on : (expiry : ℕ) → expiry ≡ expiryOf event → untimelyAt before age (eqb expiry before) ≡ false
-          → (least greatest : ℕ) → least ≡ leastLeft before age (c .least) → greatest ≡ greatestLeft before age (eqb expiry before) (c .greatest)
-          → v ≡ leftWith least greatest (c .time + delta) started → v ≡ tickOf c before after delta event
-      unfolding tickOf
-      goes-on expiry e u least greatest m g k = k ∙ rw (a, ← e, u, ← m, ← g, ← p)
+    pub one-runs : (before ≡ 0 → ⊥) → (expiry : ℕ) → expiry ≡ expiryOf event → (v : Ticked)
+        → v ≡ whileRunning (c .joining) (c .invitation) before (c .time + delta - c .started) (eqb expiry before) (c .time + delta) started → v ≡ tickOf c before after delta event
+    unfolding tickOf
+    one-runs n expiry e v k = k ∙ rw (a, ne-eqb before 0 n, ← e, ← p)

@@ -13,6 +13,8 @@ use saying::tell_count;
 use saying::tell_place;
 use settings_values::Settings;
 use text::words::part;
+use timer::Window;
+use verdict::Invitation;
 use verdict::Judged;
 
 // Judges a log by the settings of a radio, and answers the verdict.
@@ -21,22 +23,23 @@ pub fn tell_judged(settings: Settings, log: &[u8]) -> u8 {
     let count = settings.count;
     let own = own_of(settings);
     let judged = judge::judge(own, part(&identity, 0, count), log);
-    let verdict = tell_verdict_on(
-        own,
-        part(&identity, 0, count),
-        settings.joining as u64,
-        log,
-        judged,
-    );
+    let verdict = tell_verdict_on(settings, own, part(&identity, 0, count), log, judged);
     tell_version(log);
     verdict
 }
 
-fn tell_verdict_on(own: Own, identity: &[u8], joining: u64, log: &[u8], judged: Judged) -> u8 {
+fn tell_verdict_on(
+    settings: Settings,
+    own: Own,
+    identity: &[u8],
+    log: &[u8],
+    judged: Judged,
+) -> u8 {
     match judged {
-        Judged::Accepted(entries, least, greatest) => {
-            tell_accepted(entries, least, greatest);
-            tell_meaning(least, greatest, joining);
+        Judged::Accepted(entries, joining, invitation) => {
+            tell_accepted(entries, joining, invitation);
+            tell_joining(settings.joining as u64, joining);
+            tell_invitation(settings.invitation as u64, invitation);
             0
         }
         Judged::TooLong => {
@@ -57,14 +60,14 @@ fn tell_verdict_on(own: Own, identity: &[u8], joining: u64, log: &[u8], judged: 
         Judged::Unexplained(entry) => {
             tell(b"refused (answer 9): up to entry ");
             tell_place(entry);
-            tell(b" no joining timer explains the log\n");
+            tell(b" no timer explains the log\n");
             tell_refusal(own, identity, log);
             1
         }
     }
 }
 
-fn tell_accepted(entries: usize, least: u64, greatest: u64) {
+fn tell_accepted(entries: usize, joining: Window, invitation: Invitation) {
     tell(b"accepted: ");
     tell_count(
         entries,
@@ -72,29 +75,69 @@ fn tell_accepted(entries: usize, least: u64, greatest: u64) {
         b" entries; each is what a radio does",
     );
     tell(b" whose joining timer is ");
-    if least == greatest {
-        tell(b"exactly ");
-        tell_long(least);
-        tell(b" ms\n");
-        return;
+    tell_window(joining);
+    match invitation {
+        Invitation::Untold => {}
+        Invitation::Told(window) => {
+            tell(b" and whose invitation timer is ");
+            tell_window(window);
+        }
     }
-    tell_long(least);
-    tell(b" to ");
-    tell_long(greatest);
-    tell(b" ms\n");
+    tell(b"\n");
 }
 
-// What the bounds say beside the joining timer of the settings.
-fn tell_meaning(least: u64, greatest: u64, joining: u64) {
+fn tell_window(window: Window) {
+    if window.least == window.greatest {
+        tell(b"exactly ");
+    } else {
+        tell_long(window.least);
+        tell(b" to ");
+    }
+    tell_long(window.greatest);
+    tell(b" ms");
+}
+
+// What the joining timers that explain the log say beside that of the settings.
+fn tell_joining(setting: u64, window: Window) {
+    tell_setting(setting, b" ms for the joining timer");
+    tell_meaning(
+        setting,
+        window,
+        b": the radio waits longer than its settings say\n",
+        b": the radio gives up earlier than its settings say\n",
+    );
+}
+
+// The same of the invitation timers, of which a log of an older version says nothing.
+fn tell_invitation(setting: u64, invitation: Invitation) {
+    match invitation {
+        Invitation::Untold => {}
+        Invitation::Told(window) => {
+            tell_setting(setting, b" ms for the invitation timer");
+            tell_meaning(
+                setting,
+                window,
+                b": the radio keeps an invitation longer than its settings say\n",
+                b": the radio forgets an invitation earlier than its settings say\n",
+            );
+        }
+    }
+}
+
+fn tell_setting(setting: u64, name: &[u8]) {
     tell(b"the settings say ");
-    tell_long(joining);
-    if joining < least {
-        tell(b" ms: the radio waits longer than its settings say\n");
+    tell_long(setting);
+    tell(name);
+}
+
+fn tell_meaning(setting: u64, window: Window, longer: &[u8], earlier: &[u8]) {
+    if setting < window.least {
+        tell(longer);
         return;
     }
-    if greatest < joining {
-        tell(b" ms: the radio gives up earlier than its settings say\n");
+    if window.greatest < setting {
+        tell(earlier);
         return;
     }
-    tell(b" ms, which is among them\n");
+    tell(b", which is among them\n");
 }

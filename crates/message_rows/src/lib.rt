@@ -95,6 +95,7 @@ fn rejected(table: Table, context: Context) -> Decision
     match table {
         Table::First => REJECTED,
         Table::Second => returned(remembered),
+        Table::Third => returned(remembered),
     }
 }
 

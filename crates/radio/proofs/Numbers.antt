@@ -1,4 +1,4 @@
--- Number to event and back: the event of a number has this number and carries what it was given, every number from 1 to 17 has one and no other,
+-- Number to event and back: the event of a number has this number and carries what it was given, every number from 1 to 19 but 18 has one and no other,
 -- and every event but a message received is the event of its number.
 use Prim.Native.Nat.{ℕ, suc, _+_, _≤_, _<_}
 use mathlib.Core.Path.{_≡_, refl, sym, _∙_}
@@ -52,27 +52,31 @@ outside k n (r ∷ rs) m h = (
 )
 
 numbered : (v : ℕ) (r : Reference) → Numbered 1 (events v r)
-numbered v r = (refl, (refl, (refl, (refl, (refl, (refl, (refl, (refl, (refl, (refl, (refl, (refl, (refl, (refl, (refl, (refl, (refl, tt)))))))))))))))))
+numbered v r = (refl, (refl, (refl, (refl, (refl, (refl, (refl, (refl, (refl, (refl, (refl, (refl, (refl, (refl, (refl, (refl, (refl, (refl, (refl, tt)))))))))))))))))))
 
 -- ---- from the number to the event
 
--- The event of a number: seen, it is that number with the value and the reference where it carries them. No event: the number is not 1 to 17.
+-- The event of a number: seen, it is that number with the value and the reference where it carries them. No event: the number is 18, or not 1 to 19.
 abbrev pub IsOf : ℕ → ℕ → Reference → Told → Type 0
 IsOf n v r (Is event) = seenOf event ≡ cond (eqb n 1 || (eqb n 2 || eqb n 10)) (carrying n v r) (bare n)
-IsOf n v r NoEvent = 1 ≤ n → n ≤ 17 → ⊥
+IsOf n v r NoEvent = (n ≡ 18 → ⊥) → 1 ≤ n → n ≤ 19 → ⊥
 
 pub event-of-number : (n v : ℕ) (r : Reference) → IsOf n v r (eventOf n v r)
 unfolding eventOf seenOf
 event-of-number n v r =
     at-rows (IsOf n v r) n NoEvent (events v r) (
       (λ e. rw e),
-      ((λ e. rw e), ((λ e. rw e), ((λ e. rw e), ((λ e. rw e), ((λ e. rw e), ((λ e. rw e), ((λ e. rw e), ((λ e. rw e), ((λ e. rw e), ((λ e. rw e), ((λ e. rw e), ((λ e. rw e), ((λ e. rw e), ((λ e. rw e), ((λ e. rw e), ((λ e. rw e), tt)))))))))))))))),
+      ((λ e. rw e), ((λ e. rw e), ((λ e. rw e), ((λ e. rw e), ((λ e. rw e), ((λ e. rw e), ((λ e. rw e), ((λ e. rw e), ((λ e. rw e), ((λ e. rw e), ((λ e. rw e), ((λ e. rw e), ((λ e. rw e), ((λ e. rw e), ((λ e. rw e), ((λ e. rw e), ((λ e h. absurd (h e)), ((λ e. rw e), tt)))))))))))))))))),
     )
-    (λ a l m. let b : 18 ≤ n = beyond 1 n (events v r) (numbered v r) l a in omega arith)
+    (λ a h l m. let b : 20 ≤ n = beyond 1 n (events v r) (numbered v r) l a in omega arith)
 
-pub no-other-number : (n v : ℕ) (r : Reference) → (1 ≤ n → n ≤ 17 → ⊥) → eventOf n v r ≡ NoEvent
+pub no-other-number : (n v : ℕ) (r : Reference) → (1 ≤ n → n ≤ 19 → ⊥) → eventOf n v r ≡ NoEvent
 unfolding eventOf
 no-other-number n v r h = sym (other n NoEvent (events v r) (outside 1 n (events v r) (numbered v r) (λ a b. h a (omega arith))))
+
+pub no-event-18 : (v : ℕ) (r : Reference) → eventOf 18 v r ≡ NoEvent
+unfolding eventOf
+no-event-18 v r = refl
 
 -- ---- and back
 
@@ -108,6 +112,7 @@ number-of-event Event.TermExpired n = refl
 number-of-event Event.ConnReqExpired n = refl
 number-of-event Event.NoChannelExpired n = refl
 number-of-event (Event.Received mode m) n = elim (n (message-number m)) [ ]
+number-of-event Event.PresExpired n = refl
 
 -- No event of a number is a message received.
 abbrev pub NoMessage : Told → Type 0
@@ -119,6 +124,6 @@ unfolding eventOf seenOf
 no-message n v r =
     at-rows NoMessage n NoEvent (events v r) (
       (λ e. refl),
-      ((λ e. refl), ((λ e. refl), ((λ e. refl), ((λ e. refl), ((λ e. refl), ((λ e. refl), ((λ e. refl), ((λ e. refl), ((λ e. refl), ((λ e. refl), ((λ e. refl), ((λ e. refl), ((λ e. refl), ((λ e. refl), ((λ e. refl), ((λ e. refl), tt)))))))))))))))),
+      ((λ e. refl), ((λ e. refl), ((λ e. refl), ((λ e. refl), ((λ e. refl), ((λ e. refl), ((λ e. refl), ((λ e. refl), ((λ e. refl), ((λ e. refl), ((λ e. refl), ((λ e. refl), ((λ e. refl), ((λ e. refl), ((λ e. refl), ((λ e. refl), ((λ e. tt), ((λ e. refl), tt)))))))))))))))))),
     )
     (λ a. tt)

@@ -7,6 +7,7 @@ use lib.Dec.{eqb}
 use Rattle.octets.specs.Rows.{rows}
 use Rattle.message.specs.declared.Reference.{Reference}
 use Rattle.version.specs.declared.Table.{Table}
+use Rattle.version.specs.Version.{greatestEvent}
 use Rattle.context.specs.declared.Context.{Context}
 use Rattle.fitness.specs.Tables.{fitOf}
 use Rattle.call.specs.declared.Due.{Due}
@@ -29,6 +30,7 @@ use Rattle.call.specs.declared.Event.the-variants.{
   TermExpired,
   ConnReqExpired,
   NoChannelExpired,
+  PresExpired,
 }
 use Rattle.call.specs.declared.Settled.{Settled}
 use Rattle.call.specs.Due.{settled}
@@ -62,6 +64,8 @@ events value reference =
     (15, Is TermExpired) ∷  -- expiry of T_term
     (16, Is ConnReqExpired) ∷  -- expiry of T_conn req
     (17, Is NoChannelExpired) ∷  -- expiry of T_no channel
+    (18, NoEvent) ∷  -- message received
+    (19, Is PresExpired) ∷  -- expiry of T_pres
     []
 
 unfoldable pub eventOf : ℕ → ℕ → Reference → Told
@@ -110,7 +114,7 @@ fitnessRefusal table x = cond (not (fitOf table x)) 7 0
 -- Test order for a step: 7, 5, 6, 4,
 unfoldable pub refusalOf : Table → Context → ℕ → ℕ → Happened → ℕ → ℕ → ℕ
 refusalOf table x key identity h octets room =
-    cond (eqb (fitnessRefusal table x) 0) (argumentRefusal key identity (h .number) (h .value) (h .mode) octets room) (fitnessRefusal table x)
+    cond (eqb (fitnessRefusal table x) 0) (argumentRefusal (greatestEvent table) key identity (h .number) (h .value) (h .mode) octets room) (fitnessRefusal table x)
 
 -- then the rest.
 unfoldable pub stepOf : Table → Own → List ℕ → ℕ → Context → Happened → List ℕ → Reaction

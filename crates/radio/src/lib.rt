@@ -41,7 +41,7 @@ pub enum Told {
     NoEvent,
 }
 
-// The event of a number from 1 to 17.
+// The event of a number. 18, a message received, goes by "Received messages".
 fn event_of(number: u32, value: u8, reference: Reference) -> Told
     ensures { λ r. ⌜ r ≡ eventOf number value reference ⌝ }
 {
@@ -63,6 +63,8 @@ fn event_of(number: u32, value: u8, reference: Reference) -> Told
         15 => Told::Is(Event::TermExpired),
         16 => Told::Is(Event::ConnReqExpired),
         17 => Told::Is(Event::NoChannelExpired),
+        18 => Told::NoEvent,
+        19 => Told::Is(Event::PresExpired),
         _ => Told::NoEvent,
     }
 }
@@ -121,7 +123,9 @@ fn refusal(
     let number = happened.number;
     let value = happened.value;
     let mode = happened.mode;
+    let greatest = version::greatest_event(table);
     let unsuited = step_arguments::argument_refusal(
+        greatest,
         key,
         identity,
         number,

@@ -30,8 +30,8 @@ fn line_behind(text: &[u8], at: usize) -> usize
     text.len()
 }
 
-// Writes a line of a text, counted from 0.
-fn write_line(descriptor: i32, text: &[u8], number: u8) {
+// Writes a line of a text, counted from 0; nothing where the text has fewer.
+pub fn write_line(descriptor: i32, text: &[u8], number: u8) {
     let mut at = 0;
     let mut left = number;
     while 0 < left {

@@ -1,12 +1,12 @@
-// The names of the events, in the order of their numbers from 1 to 18 (document 01, "Events and steps").
+// The names of the events, in the order of their numbers: 1 to 18 (document 01, "Events and steps"), and 19, the expiry of the invitation timer.
 use crate::words::word_from;
 use text::words::part;
 use text::words::same;
 
-pub const EVENT_NAMES: [u8; 255] =
+pub const EVENT_NAMES: [u8; 270] =
     *b"set-up-request immediate-set-up-request join terminate release \
     mm-established mm-failed link-failure abort broadcast-notified receive-mode-entered no-channel channel-available \
-    t-mm-est-expired t-term-expired t-conn-req-expired t-no-channel-expired message";
+    t-mm-est-expired t-term-expired t-conn-req-expired t-no-channel-expired message t-pres-expired";
 
 // The place of a word among others, counted from 1; 0 where it is none of them.
 fn place_among(names: &[u8], name: &[u8]) -> u8 {

@@ -5,7 +5,7 @@ use mathlib.Core.List.{List, [], _∷_, map}
 use Rattle.settings_values.specs.Values.{noSettings}
 use Rattle.settings_values.specs.declared.Settings.{Settings}
 use Rattle.settings_line.specs.declared.Fault.{Fault}
-use Rattle.settings_line.specs.declared.Fault.the-variants.{Fine, NoLineFeed, NoKey, NoClassmark, NoIdentity, NoJoining}
+use Rattle.settings_line.specs.declared.Fault.the-variants.{Fine, NoLineFeed, NoKey, NoClassmark, NoIdentity, NoJoining, NoInvitation}
 use Rattle.settings_line.specs.declared.Seen.{Seen}
 use Rattle.settings_line.specs.Line.{Setting, Unreadable, settingOf, nothing, turnOf}
 use Rattle.settings.specs.Lines.{Line, Ended, Cut, lines}
@@ -30,7 +30,8 @@ endOf number seen =
     (cond (not (seen .classmark)) (refusedAt number NoClassmark)
     (cond (not (seen .identity)) (refusedAt number NoIdentity)
     (cond (not (seen .joining)) (refusedAt number NoJoining)
-    (accepted (seen .settings)))))
+    (cond (not (seen .invitation)) (refusedAt number NoInvitation)
+    (accepted (seen .settings))))))
 
 -- "The first line unreadable or repeating a name is named": the lines from the one with this number on.
 unfoldable pub readFrom : ℕ → Seen → List Setting → ReadSettings

@@ -1,4 +1,4 @@
-// The settings file (document 01, "Settings file"): four lines, any order, each once. A file that is not fit is refused
+// The settings file (document 01, "Settings file"): five lines, any order, each once. A file that is not fit is refused
 // with the number of its first bad line, why, and settings that are all zero: no line is skipped, and no default stands in.
 ghost use mathlib.Core.Path.{_≡_};
 ghost use Rattle.settings.specs.Settings.{refusedAt, endOf, settingsOf};
@@ -46,6 +46,9 @@ fn at_end(number: usize, seen: Seen) -> ReadSettings
     }
     if !seen.joining {
         return refused(number, Fault::NoJoining);
+    }
+    if !seen.invitation {
+        return refused(number, Fault::NoInvitation);
     }
     let settings = seen.settings;
     ReadSettings {

@@ -7,23 +7,23 @@ use mathlib.Core.Logic.{inl, inr}
 use native.Mathlib.Omega.{arith}
 use borrow.Author.Tests.{lt-ltb, le-leb, eq-eqb, ne-eqb, ltb-true, ltb-false, eqb-true}
 use lib.Dec.{ltb, eqb}
-use lib.ListN.{length, take, replicate}
+use lib.ListN.{length, take, replicate, getD-replicate}
 use Rattle.octets.proofs.Choice.{never}
-use Rattle.timer.specs.Timers.{joiningLeast, joiningGreatest}
+use Rattle.timer.specs.Timers.{joiningLeast, joiningGreatest, invitationLeast, invitationGreatest}
 use Rattle.settings_values.specs.declared.Settings.{Settings}
 use Rattle.settings_line.specs.declared.Seen.{Seen}
 use Rattle.settings.specs.Lines.{Ended, longer, lines}
-use Rattle.settings_values.specs.Digits.{digit, digits, octetsOf, numberFrom}
-use Rattle.settings_line.specs.Line.{Setting, Key, Classmark, Identity, Joining, keyOf, classmarkOf, identityOf, joiningOf, starts, settingOf, turnOf}
+use Rattle.settings_values.specs.Digits.{digit, digits, octetsOf}
+use Rattle.settings_line.specs.Line.{Setting, Key, Classmark, Identity, Joining, Invitation, keyOf, classmarkOf, identityOf, joiningOf, invitationOf, starts, settingOf, turnOf}
 use Rattle.settings.specs.Settings.{meaning, endOf, readFrom, settingsOf, accepted}
 use Rattle.settings_values.specs.Values.{InRange}
-use Rattle.settings_fit.specs.Written.{Digit, HexText, none, octet, decimalText, Writes, key-line, classmark-line, identity-line, joining-line, WritesAll, no-line, and-line, times, Fit}
-use Rattle.settings_values.proofs.Digits.{digit-decimal, digit-upper, digit-lower}
+use Rattle.settings_fit.specs.Written.{Digit, HexText, none, octet, decimalText, Writes, key-line, classmark-line, identity-line, joining-line, invitation-line, WritesAll, no-line, and-line, named, times, Fit}
+use Rattle.settings_values.proofs.Digits.{digit-upper, digit-lower}
+use Rattle.settings_fit.proofs.Names.{bit, Once, once-new, once-next}
+use Rattle.settings_fit.proofs.Numbers.{milliseconds-back}
+use Rattle.settings_fit.proofs.Texts.{digit-low}
 
 -- Digits, as they are read again.
-digit-low : (n : ℕ) → n < 10 → digit (0x30 + n) ≡ n
-digit-low n h = sym (digit-decimal (0x30 + n) (omega arith) (omega arith)) ∙ omega arith
-
 digit-back : (n b : ℕ) → n < 16 → Digit n b → digit b ≡ n
 digit-back n b h (inl e) = rw e (go (ltb n 10) refl)
   where
@@ -78,49 +78,15 @@ identity-back {octets} {text} w h k =
     let l : length text ≡ 2 * length octets = r .long in
     rw (le-leb 2 (length text) (omega arith), le-leb (length text) 16 (omega arith), eq-eqb (length text % 2) 0 (omega arith), r .digits-all, r .same)
 
-module _ (n : ℕ) (least : joiningLeast ≤ n) (greatest : n ≤ joiningGreatest) where
-  decimal-digits : digits 10 (decimalText n) ≡ true
-  unfolding digits
-  decimal-digits =
-      rw (
-        digit-low (n / 10000) (omega arith),
-        digit-low (n / 1000 % 10) (omega arith),
-        digit-low (n / 100 % 10) (omega arith),
-        digit-low (n / 10 % 10) (omega arith),
-        digit-low (n % 10) (omega arith),
-        lt-ltb (n / 10000) 10 (omega arith),
-        lt-ltb (n / 1000 % 10) 10 (omega arith),
-        lt-ltb (n / 100 % 10) 10 (omega arith),
-        lt-ltb (n / 10 % 10) 10 (omega arith),
-        lt-ltb (n % 10) 10 (omega arith),
-      )
+joining-back : (n : ℕ) → joiningLeast ≤ n → n ≤ joiningGreatest → joiningOf (decimalText n) ≡ Joining n
+unfolding joiningOf
+joining-back n least greatest =
+    let b = milliseconds-back joiningLeast joiningGreatest n (omega arith) (omega arith) least greatest in rw (b .0, b .1)
 
-  decimal-number : numberFrom 0 (decimalText n) ≡ n
-  unfolding numberFrom
-  decimal-number =
-      let a : 10 * 0 + n / 10000 ≡ n / 10000 = omega arith in
-      let b : 10 * (n / 10000) + n / 1000 % 10 ≡ n / 1000 = omega arith in
-      let c : 10 * (n / 1000) + n / 100 % 10 ≡ n / 100 = omega arith in
-      let d : 10 * (n / 100) + n / 10 % 10 ≡ n / 10 = omega arith in
-      let e : 10 * (n / 10) + n % 10 ≡ n = omega arith in
-      rw (
-        digit-low (n / 10000) (omega arith),
-        digit-low (n / 1000 % 10) (omega arith),
-        digit-low (n / 100 % 10) (omega arith),
-        digit-low (n / 10 % 10) (omega arith),
-        digit-low (n % 10) (omega arith),
-        a,
-        b,
-        c,
-        d,
-        e,
-      )
-
-  joining-back : joiningOf (decimalText n) ≡ Joining n
-  unfolding joiningOf
-  joining-back =
-      let f : 0x30 + n / 10000 ≡ 0x30 → ⊥ = λ e. omega arith in
-      rw (decimal-digits, decimal-number, ne-eqb (0x30 + n / 10000) 0x30 f, le-leb joiningLeast n least, le-leb n joiningGreatest greatest)
+invitation-back : (n : ℕ) → invitationLeast ≤ n → n ≤ invitationGreatest → invitationOf (decimalText n) ≡ Invitation n
+unfolding invitationOf
+invitation-back n least greatest =
+    let b = milliseconds-back invitationLeast invitationGreatest n (omega arith) (omega arith) least greatest in rw (b .0, b .1)
 
 -- A text with no LF in it, ended by one, is a line.
 clean : List ℕ → Bool
@@ -159,6 +125,7 @@ data Says (s : Settings) : ℕ → Setting → Type 0 where
   says-classmark : Says s 1 (Classmark (s .classmark))
   says-identity : Says s 2 (Identity (take (s .count) (s .identity)))
   says-joining : Says s 3 (Joining (s .joining))
+  says-invitation : Says s 4 (Invitation (s .invitation))
 
 data SaysAll (s : Settings) : List ℕ → List Setting → Type 0 where
   no-more : SaysAll s [] []
@@ -176,6 +143,7 @@ module _ (s : Settings) (range : InRange s) where
       let k : s .count ≤ 8 = range .most in
       rw (identity-back w (omega arith) (omega arith)) says-identity
   line-means joining-line = rw (joining-back (s .joining) (range .least) (range .greatest)) says-joining
+  line-means invitation-line = rw (invitation-back (s .invitation) (range .invitation-least) (range .invitation-greatest)) says-invitation
 
   line-clean : {name : ℕ} {line : List ℕ} → Writes s name line → clean line ≡ true
   unfolding clean
@@ -183,7 +151,11 @@ module _ (s : Settings) (range : InRange s) where
   line-clean (classmark-line {text} w) = digits-clean 16 text (omega arith) (hex-back w .digits-all)
   line-clean (identity-line {text} w) = digits-clean 16 text (omega arith) (hex-back w .digits-all)
   line-clean joining-line =
-      digits-clean 10 (decimalText (s .joining)) (omega arith) (decimal-digits (s .joining) (range .least) (range .greatest))
+      digits-clean 10 (decimalText (s .joining)) (omega arith)
+      (milliseconds-back joiningLeast joiningGreatest (s .joining) (omega arith) (omega arith) (range .least) (range .greatest) .2)
+  line-clean invitation-line =
+      digits-clean 10 (decimalText (s .invitation)) (omega arith)
+      (milliseconds-back invitationLeast invitationGreatest (s .invitation) (omega arith) (omega arith) (range .invitation-least) (range .invitation-greatest) .2)
 
   file-means : {names file : List ℕ} → WritesAll s names file → SaysAll s names (map meaning (lines file))
   unfolding lines
@@ -192,74 +164,60 @@ module _ (s : Settings) (range : InRange s) where
       rw (clean-line line file (line-clean w)) (and-says (line-means w) (file-means rest))
 
   -- What is seen while the lines of a fit file are read: the settings of the names seen, and zeros.
-  shown : Bool → Bool → Bool → Bool → Seen
-  shown a b c d = record {
+  shown : Bool → Bool → Bool → Bool → Bool → Seen
+  shown a b c d e = record {
     key = a;
     classmark = b;
     identity = c;
     joining = d;
+    invitation = e;
     settings = record {
       key = cond a (s .key) 0;
       classmark = cond b (s .classmark) (0 ∷ 0 ∷ 0 ∷ []);
       identity = cond c (s .identity) (replicate 8 0);
       count = cond c (s .count) 0;
       joining = cond d (s .joining) 0;
+      invitation = cond e (s .invitation) 0;
     };
   }
-
--- A flag as a number.
-abbrev pub bit : Bool → ℕ
-bit true = 1
-bit false = 0
 
 once-true : (t : Bool) → bit t + 0 ≡ 1 → t ≡ true
 once-true true e = refl
 once-true false e = let z : ⊥ = omega arith in elim z [ ]
 
-once-false : (t : Bool) (n : ℕ) → bit t + suc n ≡ 1 → t ≡ false
-once-false true n e = let z : ⊥ = omega arith in elim z [ ]
-once-false false n e = refl
-
-now-seen : (t : Bool) (n : ℕ) → bit t + suc n ≡ 1 → bit true + n ≡ 1
-now-seen true n e = let z : ⊥ = omega arith in elim z [ ]
-now-seen false n e = omega arith
-
--- Each name is seen already or stands once among the names to come.
-record Once (a b c d : Bool) (names : List ℕ) : Type 0 where
-  zeroth : bit a + times 0 names ≡ 1
-  first : bit b + times 1 names ≡ 1
-  second : bit c + times 2 names ≡ 1
-  third : bit d + times 3 names ≡ 1
-
 module _ (s : Settings) (range : InRange s) where
-  reads : (number : ℕ) (a b c d : Bool) {names : List ℕ} {xs : List Setting} → SaysAll s names xs → Once a b c d names
-      → readFrom number (shown s range a b c d) xs ≡ accepted s
+  reads : (number : ℕ) (a b c d e : Bool) {names : List ℕ} {xs : List Setting} → SaysAll s names xs → Once (a ∷ b ∷ c ∷ d ∷ e ∷ []) names
+      → readFrom number (shown s range a b c d e) xs ≡ accepted s
   unfolding readFrom turnOf endOf times shown
-  reads number a b c d no-more o =
-      rw (once-true a (o .zeroth), once-true b (o .first), once-true c (o .second), once-true d (o .third))
-  reads number a b c d (and-says says-key rest) o =
-      rw (once-false a _ (o .zeroth)) (reads (suc number) true b c d rest
-      record { zeroth = now-seen a _ (o .zeroth); first = o .first; second = o .second; third = o .third })
-  reads number a b c d (and-says says-classmark rest) o =
-      rw (once-false b _ (o .first)) (reads (suc number) a true c d rest
-      record { zeroth = o .zeroth; first = now-seen b _ (o .first); second = o .second; third = o .third })
-  reads number a b c d (and-says says-identity rest) o =
-      rw (once-false c _ (o .second), ← range .zeros, range .counted) (reads (suc number) a b true d rest
-      record { zeroth = o .zeroth; first = o .first; second = now-seen c _ (o .second); third = o .third })
-  reads number a b c d (and-says says-joining rest) o =
-      rw (once-false d _ (o .third)) (reads (suc number) a b c true rest
-      record { zeroth = o .zeroth; first = o .first; second = o .second; third = now-seen d _ (o .third) })
+  reads number a b c d e no-more o =
+      rw (
+        once-true a (o 0 (omega arith)),
+        once-true b (o 1 (omega arith)),
+        once-true c (o 2 (omega arith)),
+        once-true d (o 3 (omega arith)),
+        once-true e (o 4 (omega arith)),
+      )
+  reads number a b c d e (and-says {names = names} says-key rest) o =
+      let new : a ≡ false = once-new (a ∷ b ∷ c ∷ d ∷ e ∷ []) 0 names (omega arith) (omega arith) o in
+      rw new (reads (suc number) true b c d e rest (once-next (a ∷ b ∷ c ∷ d ∷ e ∷ []) 0 names (omega arith) (omega arith) o))
+  reads number a b c d e (and-says {names = names} says-classmark rest) o =
+      let new : b ≡ false = once-new (a ∷ b ∷ c ∷ d ∷ e ∷ []) 1 names (omega arith) (omega arith) o in
+      rw new (reads (suc number) a true c d e rest (once-next (a ∷ b ∷ c ∷ d ∷ e ∷ []) 1 names (omega arith) (omega arith) o))
+  reads number a b c d e (and-says {names = names} says-identity rest) o =
+      let new : c ≡ false = once-new (a ∷ b ∷ c ∷ d ∷ e ∷ []) 2 names (omega arith) (omega arith) o in
+      rw (new, ← range .zeros, range .counted)
+      (reads (suc number) a b true d e rest (once-next (a ∷ b ∷ c ∷ d ∷ e ∷ []) 2 names (omega arith) (omega arith) o))
+  reads number a b c d e (and-says {names = names} says-joining rest) o =
+      let new : d ≡ false = once-new (a ∷ b ∷ c ∷ d ∷ e ∷ []) 3 names (omega arith) (omega arith) o in
+      rw new (reads (suc number) a b c true e rest (once-next (a ∷ b ∷ c ∷ d ∷ e ∷ []) 3 names (omega arith) (omega arith) o))
+  reads number a b c d e (and-says {names = names} says-invitation rest) o =
+      let new : e ≡ false = once-new (a ∷ b ∷ c ∷ d ∷ e ∷ []) 4 names (omega arith) (omega arith) o in
+      rw new (reads (suc number) a b c d true rest (once-next (a ∷ b ∷ c ∷ d ∷ e ∷ []) 4 names (omega arith) (omega arith) o))
 
 -- A fit file is read, and exactly.
 pub fit-read : (s : Settings) (file : List ℕ) → Fit s file → settingsOf file ≡ accepted s
 unfolding settingsOf shown
-fit-read s file f =
-    reads s (f .range) 1 false false false false (file-means s (f .range) (f .written)) record {
-      zeroth = seldom 0 (omega arith);
-      first = seldom 1 (omega arith);
-      second = seldom 2 (omega arith);
-      third = seldom 3 (omega arith);
-    }
+fit-read s file f = reads s (f .range) 1 false false false false false (file-means s (f .range) (f .written)) unmarked
   where
-    seldom : (name : ℕ) → name < 4 → 0 + times name (f .names) ≡ 1
-    seldom name h = let e : times name (f .names) ≡ 1 = f .each-once name h in omega arith
+    unmarked : Once (replicate named false) (f .names)
+    unmarked name h = rw (getD-replicate named name false false h) (let e : times name (f .names) ≡ 1 = f .each-once name h in omega arith)

@@ -5,10 +5,10 @@ use mathlib.Core.Bool.{Bool, true, false, cond}
 use mathlib.Core.List.{List, [], _∷_, map}
 use Rattle.octets.proofs.Choice.{at-cond}
 use Rattle.settings_line.specs.declared.Fault.{Fault}
-use Rattle.settings_line.specs.declared.Fault.the-variants.{Fine, NoLineFeed, UnknownName, BadKey, BadClassmark, BadIdentity, BadJoining, Repeated, NoKey, NoClassmark, NoIdentity, NoJoining}
+use Rattle.settings_line.specs.declared.Fault.the-variants.{Fine, NoLineFeed, UnknownName, BadKey, BadClassmark, BadIdentity, BadJoining, BadInvitation, Repeated, NoKey, NoClassmark, NoIdentity, NoJoining, NoInvitation}
 use Rattle.settings.specs.Lines.{Line, Ended, Cut}
-use Rattle.settings_values.specs.Values.{isKey, isClassmark, isIdentity, isJoining}
-use Rattle.settings_line.specs.Line.{Setting, Key, Classmark, Identity, Joining, Unreadable, starts, cksn=, classmark=, identity=, «conn_req_ms=», settingOf, keyOf, classmarkOf, identityOf, joiningOf}
+use Rattle.settings_values.specs.Values.{isKey, isClassmark, isIdentity, isJoining, isInvitation}
+use Rattle.settings_line.specs.Line.{Setting, Key, Classmark, Identity, Joining, Invitation, Unreadable, starts, cksn=, classmark=, identity=, «conn_req_ms=», «present_ms=», settingOf, keyOf, classmarkOf, identityOf, joiningOf, invitationOf}
 use Rattle.settings.specs.Settings.{meaning}
 
 abbrev pub isFine : Fault → Bool
@@ -19,17 +19,20 @@ isFine BadKey = false
 isFine BadClassmark = false
 isFine BadIdentity = false
 isFine BadJoining = false
+isFine BadInvitation = false
 isFine Repeated = false
 isFine NoKey = false
 isFine NoClassmark = false
 isFine NoIdentity = false
 isFine NoJoining = false
+isFine NoInvitation = false
 
 pub data Faulty : Setting → Type 0 where
   sets-key : {n : ℕ} → Faulty (Key n)
   sets-classmark : {octets : List ℕ} → Faulty (Classmark octets)
   sets-identity : {octets : List ℕ} → Faulty (Identity octets)
   sets-joining : {n : ℕ} → Faulty (Joining n)
+  sets-invitation : {n : ℕ} → Faulty (Invitation n)
   sets-nothing : {fault : Fault} → isFine fault ≡ false → Faulty (Unreadable fault)
 
 pub told : {fault : Fault} → Faulty (Unreadable fault) → isFine fault ≡ false
@@ -56,6 +59,10 @@ joining-faulty : (text : List ℕ) → Faulty (joiningOf text)
 unfolding joiningOf
 joining-faulty text = value-faulty (isJoining text) BadJoining sets-joining refl
 
+invitation-faulty : (text : List ℕ) → Faulty (invitationOf text)
+unfolding invitationOf
+invitation-faulty text = value-faulty (isInvitation text) BadInvitation sets-invitation refl
+
 line-faulty : (line : List ℕ) → Faulty (settingOf line)
 unfolding settingOf
 line-faulty line =
@@ -63,6 +70,7 @@ line-faulty line =
     λ _. at-cond Faulty (starts classmark= line) _ _ (λ _. classmark-faulty _)
     λ _. at-cond Faulty (starts identity= line) _ _ (λ _. identity-faulty _)
     λ _. at-cond Faulty (starts «conn_req_ms=» line) _ _ (λ _. joining-faulty _)
+    λ _. at-cond Faulty (starts «present_ms=» line) _ _ (λ _. invitation-faulty _)
     λ _. sets-nothing refl
 
 abbrev pub FaultyAll : List Setting → Type 0

@@ -1,25 +1,26 @@
 -- Only a fit file is accepted: a line that sets something writes it, in the form that document 01 gives.
-use Prim.Native.Nat.{ℕ, suc, _+_, _/_, _%_, _≤_, _<_}
+use Prim.Native.Nat.{ℕ, zero, suc, _+_, _/_, _%_, _≤_, _<_}
 use mathlib.Core.Path.{_≡_, refl, sym, ap, subst, _∙_}
-use mathlib.Core.Bool.{Bool, true, false, cond, not, _&&_}
+use mathlib.Core.Bool.{Bool, true, false, cond, _&&_}
 use mathlib.Core.List.{List, [], _∷_, _++_, map}
 use native.Mathlib.Omega.{arith}
-use borrow.Author.Tests.{leb-true, ltb-true, eqb-true, eq-eqb}
+use borrow.Author.Tests.{leb-true, ltb-true, eqb-true}
 use lib.Dec.{leb, eqb}
 use lib.ListN.{length, getD, take, drop, take-append-drop}
 use lib.Seq.{take-append-seam}
-use Rattle.octets.proofs.Choice.{never, at-cond}
-use Rattle.timer.specs.Timers.{joiningLeast, joiningGreatest}
+use Rattle.octets.proofs.Choice.{at-cond}
+use Rattle.timer.specs.Timers.{joiningLeast, joiningGreatest, invitationLeast, invitationGreatest}
 use Rattle.settings_values.specs.declared.Settings.{Settings}
 use Rattle.settings.specs.Lines.{Line, Ended, Cut, longer, lines}
 use Rattle.settings_values.specs.Digits.{digit, digits, octetsOf, numberFrom}
-use Rattle.settings_values.specs.Values.{isJoining, padded}
-use Rattle.settings_line.specs.Line.{Setting, Key, Classmark, Identity, Joining, Unreadable, cksn=, classmark=, identity=, «conn_req_ms=», keyOf, classmarkOf, identityOf, joiningOf, starts, settingOf}
+use Rattle.settings_values.specs.Values.{isJoining, isInvitation, padded}
+use Rattle.settings_line.specs.Line.{Setting, Key, Classmark, Identity, Joining, Invitation, Unreadable, cksn=, classmark=, identity=, «conn_req_ms=», «present_ms=», keyOf, classmarkOf, identityOf, joiningOf, invitationOf, starts, settingOf}
 use Rattle.settings.specs.Settings.{meaning}
-use Rattle.settings_fit.specs.Written.{decimalText, Writes, key-line, classmark-line, identity-line, joining-line, WritesAll, no-line, and-line, times, EachOnce, Fit}
+use Rattle.settings_fit.specs.Written.{decimalText, Writes, key-line, classmark-line, identity-line, joining-line, invitation-line, WritesAll, no-line, and-line, times, EachOnce, Fit}
 use Rattle.settings_fit.specs.Promise.{nameOf, namesOf}
 use Rattle.settings_line.proofs.Names.{starts-true}
-use Rattle.settings_fit.proofs.Texts.{both, digit-low-is, hex-is, five-is}
+use Rattle.settings_fit.proofs.Texts.{both, digit-low-is, hex-is}
+use Rattle.settings_fit.proofs.Numbers.{milliseconds-are}
 use Rattle.settings_values.proofs.Values.{octets-count}
 
 -- The settings hold what a line sets.
@@ -28,21 +29,23 @@ Holds s (Key n) = s .key ≡ n
 Holds s (Classmark octets) = s .classmark ≡ octets
 Holds s (Identity octets) = (s .identity ≡ padded octets) × (s .count ≡ length octets)
 Holds s (Joining n) = s .joining ≡ n
+Holds s (Invitation n) = s .invitation ≡ n
 Holds s (Unreadable fault) = ⊥
 
 -- The range of what stands under a name, by the name's number.
-record Ranged (s : Settings) (name : ℕ) : Type 0 where
-  key : name ≡ 0 → s .key ≤ 7
-  classmark : name ≡ 1 → length (s .classmark) ≡ 3
-  some : name ≡ 2 → 1 ≤ s .count
-  most : name ≡ 2 → s .count ≤ 8
-  counted : name ≡ 2 → length (take (s .count) (s .identity)) ≡ s .count
-  zeros : name ≡ 2 → s .identity ≡ padded (take (s .count) (s .identity))
-  least : name ≡ 3 → joiningLeast ≤ s .joining
-  greatest : name ≡ 3 → s .joining ≤ joiningGreatest
+record IdentityRange (s : Settings) : Type 0 where
+  some : 1 ≤ s .count
+  most : s .count ≤ 8
+  counted : length (take (s .count) (s .identity)) ≡ s .count
+  zeros : s .identity ≡ padded (take (s .count) (s .identity))
 
-other : {A : Type 0} (m n : ℕ) → eqb m n ≡ false → m ≡ n → A
-other m n h e = never (sym h ∙ eq-eqb m n e)
+abbrev Ranged : Settings → ℕ → Type 0
+Ranged s zero = s .key ≤ 7
+Ranged s (suc zero) = length (s .classmark) ≡ 3
+Ranged s (suc (suc zero)) = IdentityRange s
+Ranged s (suc (suc (suc zero))) = (joiningLeast ≤ s .joining) × (s .joining ≤ joiningGreatest)
+Ranged s (suc (suc (suc (suc zero)))) = (invitationLeast ≤ s .invitation) × (s .invitation ≤ invitationGreatest)
+Ranged s (suc (suc (suc (suc (suc name))))) = Unit {0}
 
 module _ (s : Settings) where
   -- A line that sets what the settings hold writes it.
@@ -62,19 +65,7 @@ module _ (s : Settings) where
       one (b ∷ []) l e h =
           let d : digit b < 8 = ltb-true _ _ (both _ _ e .0) in
           let q : b ≡ 0x30 + s .key = digit-low-is b (omega arith) ∙ ap (0x30 +_) (sym h) in
-          record {
-            writes = rw q key-line;
-            ranged = record {
-              key = λ _. omega arith;
-              classmark = other 0 1 refl;
-              some = other 0 2 refl;
-              most = other 0 2 refl;
-              counted = other 0 2 refl;
-              zeros = other 0 2 refl;
-              least = other 0 3 refl;
-              greatest = other 0 3 refl;
-            };
-          }
+          record { writes = rw q key-line; ranged = omega arith }
       one (b ∷ c ∷ text) l e h = let z : ⊥ = omega arith in elim z [ ]
 
   classmark-is : (text : List ℕ) → Is (classmark= ++ text) (classmarkOf text)
@@ -85,19 +76,7 @@ module _ (s : Settings) where
       six e h =
           let p = both _ _ e in
           let l : length text ≡ 6 = eqb-true _ _ (p .0) in
-          record {
-            writes = classmark-line {text = text} (rw h (hex-is text (p .1) (omega arith)));
-            ranged = record {
-              key = other 1 0 refl;
-              classmark = λ _. rw h (octets-count 3 text l);
-              some = other 1 2 refl;
-              most = other 1 2 refl;
-              counted = other 1 2 refl;
-              zeros = other 1 2 refl;
-              least = other 1 3 refl;
-              greatest = other 1 3 refl;
-            };
-          }
+          record { writes = classmark-line {text = text} (rw h (hex-is text (p .1) (omega arith))); ranged = rw h (octets-count 3 text l) }
 
   identity-is : (text : List ℕ) → Is (identity= ++ text) (identityOf text)
   unfolding identityOf
@@ -117,45 +96,28 @@ module _ (s : Settings) where
           let t : take (s .count) (s .identity) ≡ octetsOf text = rw (h .0, h .1) (take-append-seam (octetsOf text) _) in
           record {
             writes = identity-line {text = text} (rw t (hex-is text (p .1) c));
-            ranged = record {
-              key = other 2 0 refl;
-              classmark = other 2 1 refl;
-              some = λ _. omega arith;
-              most = λ _. omega arith;
-              counted = λ _. rw t (sym k);
-              zeros = λ _. rw t (h .0);
-              least = other 2 3 refl;
-              greatest = other 2 3 refl;
-            };
+            ranged = record { some = omega arith; most = omega arith; counted = rw t (sym k); zeros = rw t (h .0) };
           }
 
   joining-is : (text : List ℕ) → Is («conn_req_ms=» ++ text) (joiningOf text)
   unfolding joiningOf
-  joining-is text = at-cond (Is («conn_req_ms=» ++ text)) _ _ _ five (λ _ h. elim h [ ])
+  joining-is text = at-cond (Is («conn_req_ms=» ++ text)) _ _ _ timed (λ _ h. elim h [ ])
     where
-      five : isJoining text ≡ true
-          → Is («conn_req_ms=» ++ text) (Joining (numberFrom 0 text))
-      five e h =
-          let p = both _ _ e in
-          let q = both _ _ (p .0) in
-          let r = both _ _ (q .0) in
-          let f : getD text 0 0 ≡ 0x30 → ⊥ = λ k. never (sym (ap not (eq-eqb (getD text 0 0) 0x30 k)) ∙ r .1) in
-          let l : joiningLeast ≤ numberFrom 0 text = leb-true _ _ (q .1) in
-          let g : numberFrom 0 text ≤ joiningGreatest = leb-true _ _ (p .1) in
-          let t : text ≡ decimalText (s .joining) = rw h (five-is text (r .0) f l g) in
-          record {
-            writes = rw t joining-line;
-            ranged = record {
-              key = other 3 0 refl;
-              classmark = other 3 1 refl;
-              some = other 3 2 refl;
-              most = other 3 2 refl;
-              counted = other 3 2 refl;
-              zeros = other 3 2 refl;
-              least = λ _. omega arith;
-              greatest = λ _. omega arith;
-            };
-          }
+      timed : isJoining text ≡ true → Is («conn_req_ms=» ++ text) (Joining (numberFrom 0 text))
+      timed e h =
+          let m = milliseconds-are joiningLeast joiningGreatest text (omega arith) e in
+          let t : text ≡ decimalText (s .joining) = rw h (m .same) in
+          record { writes = rw t joining-line; ranged = rw h (m .low, m .high) }
+
+  invitation-is : (text : List ℕ) → Is («present_ms=» ++ text) (invitationOf text)
+  unfolding invitationOf
+  invitation-is text = at-cond (Is («present_ms=» ++ text)) _ _ _ timed (λ _ h. elim h [ ])
+    where
+      timed : isInvitation text ≡ true → Is («present_ms=» ++ text) (Invitation (numberFrom 0 text))
+      timed e h =
+          let m = milliseconds-are invitationLeast invitationGreatest text (omega arith) e in
+          let t : text ≡ decimalText (s .invitation) = rw h (m .same) in
+          record { writes = rw t invitation-line; ranged = rw h (m .low, m .high) }
 
   -- A line that starts with a name is the name, and what stands behind it.
   named : (name line : List ℕ) → starts name line ≡ true → line ≡ name ++ drop (length name) line
@@ -170,6 +132,7 @@ module _ (s : Settings) where
       λ _. at-cond (Is line) _ _ _ (λ e. under classmark= classmarkOf e (classmark-is _))
       λ _. at-cond (Is line) _ _ _ (λ e. under identity= identityOf e (identity-is _))
       λ _. at-cond (Is line) _ _ _ (λ e. under «conn_req_ms=» joiningOf e (joining-is _))
+      λ _. at-cond (Is line) _ _ _ (λ e. under «present_ms=» invitationOf e (invitation-is _))
       λ _ h. elim h [ ]
     where
       under : (name : List ℕ) (f : List ℕ → Setting) → starts name line ≡ true
@@ -237,16 +200,19 @@ module _ (s : Settings) where
       let b = range-of 1 (namesOf file) (once 1 (omega arith)) (p .1) in
       let c = range-of 2 (namesOf file) (once 2 (omega arith)) (p .1) in
       let d = range-of 3 (namesOf file) (once 3 (omega arith)) (p .1) in
+      let e = range-of 4 (namesOf file) (once 4 (omega arith)) (p .1) in
       record {
         range = record {
-          key = a .key refl;
-          classmark = b .classmark refl;
-          some = c .some refl;
-          most = c .most refl;
-          counted = c .counted refl;
-          zeros = c .zeros refl;
-          least = d .least refl;
-          greatest = d .greatest refl;
+          key = a;
+          classmark = b;
+          some = c .some;
+          most = c .most;
+          counted = c .counted;
+          zeros = c .zeros;
+          least = d .0;
+          greatest = d .1;
+          invitation-least = e .0;
+          invitation-greatest = e .1;
         };
         names = namesOf file;
         each-once = once;

@@ -9,25 +9,26 @@ use Rattle.settings_line.specs.declared.Fault.the-variants.{Fine}
 use Rattle.settings.specs.declared.ReadSettings.{ReadSettings}
 use Rattle.settings.specs.Lines.{lines}
 use Rattle.settings_values.specs.Values.{noSettings}
-use Rattle.settings_line.specs.Line.{Setting, Key, Classmark, Identity, Joining, Unreadable}
+use Rattle.settings_line.specs.Line.{Setting, Key, Classmark, Identity, Joining, Invitation, Unreadable}
 use Rattle.settings.specs.Settings.{meaning}
-use Rattle.settings_fit.specs.Written.{times, Fit}
+use Rattle.settings_fit.specs.Written.{named, times, Fit}
 
--- The number of a line's name, as `Writes` counts them, and 4 for a line that is unreadable.
+-- The number of a line's name, as `Writes` counts them, and the next for a line that is unreadable.
 abbrev pub nameOf : Setting → ℕ
 nameOf (Key n) = 0
 nameOf (Classmark octets) = 1
 nameOf (Identity octets) = 2
 nameOf (Joining n) = 3
-nameOf (Unreadable fault) = 4
+nameOf (Invitation n) = 4
+nameOf (Unreadable fault) = named
 
 abbrev pub namesOf : List ℕ → List ℕ
 namesOf file = map nameOf (map meaning (lines file))
 
 -- Lines that all read, and differ in name.
 pub record Good (names : List ℕ) : Type 0 where
-  pub read : times 4 names ≡ 0
-  pub differ : (name : ℕ) → name < 4 → times name names ≤ 1
+  pub read : times named names ≡ 0
+  pub differ : (name : ℕ) → name < named → times name names ≤ 1
 
 -- The line with this number is unreadable or repeats a name, and all before it are good.
 pub record FirstBad (names : List ℕ) (number : ℕ) : Type 0 where
@@ -37,12 +38,12 @@ pub record FirstBad (names : List ℕ) (number : ℕ) : Type 0 where
   pub file : names ≡ before ++ name ∷ behind
   pub here : number ≡ suc (length before)
   pub good : Good before
-  pub bad : (name ≡ 4) ⊎ (times name before ≡ 1)
+  pub bad : (name ≡ named) ⊎ (times name before ≡ 1)
 
 -- All lines are good and a name is missing; the number is the count of lines plus 1.
 pub record OneMissing (names : List ℕ) (number : ℕ) : Type 0 where
   pub name : ℕ
-  pub one : name < 4
+  pub one : name < named
   pub here : number ≡ suc (length names)
   pub good : Good names
   pub missing : times name names ≡ 0

@@ -1,29 +1,21 @@
 -- Laws of one line's turn, by what the line means; and of the file's lines, in the terms of the loop that goes through them.
 use Prim.Native.Nat.{ℕ, _-_, _≤_}
 use mathlib.Core.Path.{_≡_, sym, ap, _∙_}
-use mathlib.Core.Bool.{Bool, true, false}
+use mathlib.Core.Bool.{true, false}
 use mathlib.Core.List.{List}
 use native.Mathlib.Omega.{arith}
 use lib.ListN.{length, drop, length-drop}
 use lib.Seq.{take-all}
 use Rattle.octets.specs.Run.{part}
 use Rattle.settings_line.specs.declared.Fault.{Fault}
-use Rattle.settings_line.specs.declared.Fault.the-variants.{Fine, Repeated, UnknownName}
+use Rattle.settings_line.specs.declared.Fault.the-variants.{UnknownName}
 use Rattle.settings_line.specs.declared.Seen.{Seen}
 use Rattle.settings_line.specs.declared.Turn.{Turn}
-use Rattle.settings_line.specs.Line.{Setting, Unreadable, stoppedBy, once, turnOf, starts, cksn=, classmark=, identity=, «conn_req_ms=», keyOf, classmarkOf, identityOf, joiningOf, settingOf}
+use Rattle.settings_line.specs.Line.{Setting, Unreadable, stoppedBy, turnOf, starts, cksn=, classmark=, identity=, «conn_req_ms=», «present_ms=», keyOf, classmarkOf, identityOf, joiningOf, invitationOf, settingOf}
 
 pub turn-stopped : (seen : Seen) (s : Setting) (fault : Fault) (r : Turn) → r ≡ stoppedBy fault → s ≡ Unreadable fault → r ≡ turnOf seen s
 unfolding turnOf
 turn-stopped seen s fault r p q = p ∙ sym (ap (turnOf seen) q)
-
--- A name that is seen already, and one that is not.
-pub turn-again : {t r : Turn} (already : Bool) (next : Seen) → t ≡ once already next → already ≡ true → r ≡ stoppedBy Repeated → r ≡ t
-turn-again already next p q e = e ∙ sym (rw q at p)
-
-pub turn-new : {t : Turn} (already : Bool) (next : Seen) → t ≡ once already next → already ≡ false
-    → record { taken = true; fault = Fine; seen = next } ≡ t
-turn-new already next p q = sym (rw q at p)
 
 -- All octets from a place on.
 rest-part : (line : List ℕ) (place : ℕ) → part line place (length line - place) ≡ drop place line
@@ -50,7 +42,12 @@ module _ (line : List ℕ) (seen : Seen) (r : Turn) where
   unfolding settingOf
   line-joining a b d e p = rw (a, b, d, e) (rw (rest-part line 12) at p)
 
+  pub line-invitation : starts cksn= line ≡ false → starts classmark= line ≡ false → starts identity= line ≡ false → starts «conn_req_ms=» line ≡ false
+      → starts «present_ms=» line ≡ true → r ≡ turnOf seen (invitationOf (part line 11 (length line - 11))) → r ≡ turnOf seen (settingOf line)
+  unfolding settingOf
+  line-invitation a b d e f p = rw (a, b, d, e, f) (rw (rest-part line 11) at p)
+
   pub line-unknown : starts cksn= line ≡ false → starts classmark= line ≡ false → starts identity= line ≡ false → starts «conn_req_ms=» line ≡ false
-      → r ≡ stoppedBy UnknownName → r ≡ turnOf seen (settingOf line)
+      → starts «present_ms=» line ≡ false → r ≡ stoppedBy UnknownName → r ≡ turnOf seen (settingOf line)
   unfolding settingOf turnOf
-  line-unknown a b d e p = rw (a, b, d, e) p
+  line-unknown a b d e f p = rw (a, b, d, e, f) p

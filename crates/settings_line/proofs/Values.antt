@@ -6,13 +6,14 @@ use mathlib.Core.List.{List}
 use lib.ListN.{length, getD}
 use Rattle.octets.proofs.Choice.{never}
 use Rattle.settings_values.specs.Digits.{digit, octetsOf, numberFrom}
-use Rattle.settings_values.specs.Values.{isKey, isClassmark, isIdentity, isJoining, padded, noKey, keyRead, noClassmark, classmarkRead, noIdentity, identityRead, noJoining, joiningRead}
+use Rattle.settings_values.specs.Values.{isKey, isClassmark, isIdentity, isMilliseconds, padded, noKey, keyRead, noClassmark, classmarkRead, noIdentity, identityRead, noMilliseconds, millisecondsRead}
 use Rattle.settings_values.specs.declared.KeyRead.{KeyRead}
 use Rattle.settings_values.specs.declared.ClassmarkRead.{ClassmarkRead}
 use Rattle.settings_values.specs.declared.IdentityRead.{IdentityRead}
-use Rattle.settings_values.specs.declared.JoiningRead.{JoiningRead}
-use Rattle.settings_line.specs.declared.Fault.the-variants.{BadKey, BadClassmark, BadIdentity, BadJoining}
-use Rattle.settings_line.specs.Line.{Setting, Key, Classmark, Identity, Joining, Unreadable, keyOf, classmarkOf, identityOf, joiningOf}
+use Rattle.settings_values.specs.declared.MillisecondsRead.{MillisecondsRead}
+use Rattle.settings_line.specs.declared.Fault.{Fault}
+use Rattle.settings_line.specs.declared.Fault.the-variants.{BadKey, BadClassmark, BadIdentity}
+use Rattle.settings_line.specs.Line.{Setting, Key, Classmark, Identity, Unreadable, keyOf, classmarkOf, identityOf}
 
 -- A reading by a test: `good` says which way the test went.
 module _ {R : Type 0} (good : R → Bool) (yes no : R) (y : good yes ≡ true) (n : good no ≡ false) where
@@ -74,16 +75,20 @@ module _ (text : List ℕ) (r : IdentityRead) (p : r ≡ identityRead text) wher
   pub identity-count : r .good ≡ true → r .count ≡ length (octetsOf text)
   identity-count e = ap (λ (x : IdentityRead). x .count) (identity-is e)
 
-module _ (text : List ℕ) (r : JoiningRead) (p : r ≡ joiningRead text) where
-  abbrev joining-yes : JoiningRead
-  joining-yes = record { good = true; milliseconds = numberFrom 0 text }
+-- A timer in milliseconds: one law for each name that has one, by its range, what it sets and its fault.
+module _ (least greatest : ℕ) (sets : ℕ → Setting) (fault : Fault) (text : List ℕ) (r : MillisecondsRead) (p : r ≡ millisecondsRead least greatest text) where
+  abbrev Timer : Setting
+  Timer = cond (isMilliseconds least greatest text) (sets (numberFrom 0 text)) (Unreadable fault)
 
-  pub joining-none : r .good ≡ false → joiningOf text ≡ Unreadable BadJoining
-  unfolding joiningRead joiningOf
-  joining-none e = rw (went (λ (x : JoiningRead). x .good) joining-yes noJoining refl refl (isJoining text) r p false e)
+  abbrev timer-yes : MillisecondsRead
+  timer-yes = record { good = true; milliseconds = numberFrom 0 text }
 
-  pub joining-some : r .good ≡ true → joiningOf text ≡ Joining (r .milliseconds)
-  unfolding joiningRead joiningOf
-  joining-some e =
-      rw (went (λ (x : JoiningRead). x .good) joining-yes noJoining refl refl (isJoining text) r p true e)
-      (ap (λ (x : JoiningRead). Joining (x .milliseconds)) (sym (gave (λ (x : JoiningRead). x .good) joining-yes noJoining refl refl (isJoining text) r p e)))
+  pub timer-none : r .good ≡ false → Timer ≡ Unreadable fault
+  unfolding millisecondsRead
+  timer-none e = rw (went (λ (x : MillisecondsRead). x .good) timer-yes noMilliseconds refl refl (isMilliseconds least greatest text) r p false e)
+
+  pub timer-some : r .good ≡ true → Timer ≡ sets (r .milliseconds)
+  unfolding millisecondsRead
+  timer-some e =
+      rw (went (λ (x : MillisecondsRead). x .good) timer-yes noMilliseconds refl refl (isMilliseconds least greatest text) r p true e)
+      (ap (λ (x : MillisecondsRead). sets (x .milliseconds)) (sym (gave (λ (x : MillisecondsRead). x .good) timer-yes noMilliseconds refl refl (isMilliseconds least greatest text) r p e)))

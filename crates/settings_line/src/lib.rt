@@ -1,6 +1,6 @@
 // One line of the settings file (document 01, "Settings file"): a name, and the value behind it. Each name once.
 ghost use mathlib.Core.Path.{_≡_};
-ghost use Rattle.settings_line.specs.Line.{starts, keyOf, classmarkOf, identityOf, joiningOf, settingOf, stoppedBy, turnOf};
+ghost use Rattle.settings_line.specs.Line.{starts, keyOf, classmarkOf, identityOf, joiningOf, invitationOf, settingOf, stoppedBy, once, turnOf};
 use settings_values::Settings;
 
 // Why a file is refused, for the words that a person reads: the line has no LF, no name that is known, a value that its
@@ -13,11 +13,13 @@ pub enum Fault {
     BadClassmark,
     BadIdentity,
     BadJoining,
+    BadInvitation,
     Repeated,
     NoKey,
     NoClassmark,
     NoIdentity,
     NoJoining,
+    NoInvitation,
 }
 
 // Which names the lines so far had, and what they set.
@@ -26,6 +28,7 @@ pub struct Seen {
     pub classmark: bool,
     pub identity: bool,
     pub joining: bool,
+    pub invitation: bool,
     pub settings: Settings,
 }
 
@@ -35,6 +38,7 @@ impl Seen {
         classmark: false,
         identity: false,
         joining: false,
+        invitation: false,
         settings: Settings::NONE,
     };
 }
@@ -57,6 +61,20 @@ fn stopped(fault: Fault) -> Turn
     }
 }
 
+// A name stands once: the line is refused where it stood before, and else taken.
+fn taken_once(already: bool, next: Seen) -> Turn
+    ensures { λ r. ⌜ r ≡ once already next ⌝ }
+{
+    if already {
+        return stopped(Fault::Repeated);
+    }
+    Turn {
+        taken: true,
+        fault: Fault::Fine,
+        seen: next,
+    }
+}
+
 // The line starts with the name.
 fn starts_with(line: &[u8], name: &[u8]) -> bool
     ensures { λ r. ⌜ r ≡ starts (now (name .entry)) (now (line .entry)) ⌝ }
@@ -76,19 +94,12 @@ fn with_key(seen: Seen, text: &[u8]) -> Turn
     if !value.good {
         return stopped(Fault::BadKey);
     }
-    if seen.key {
-        return stopped(Fault::Repeated);
-    }
     let mut settings = seen.settings;
     settings.key = value.number;
     let mut next = seen;
     next.key = true;
     next.settings = settings;
-    Turn {
-        taken: true,
-        fault: Fault::Fine,
-        seen: next,
-    }
+    taken_once(seen.key, next)
 }
 
 // `classmark=`
@@ -99,20 +110,13 @@ fn with_classmark(seen: Seen, text: &[u8]) -> Turn
     if !value.good {
         return stopped(Fault::BadClassmark);
     }
-    if seen.classmark {
-        return stopped(Fault::Repeated);
-    }
     let mut settings = seen.settings;
     let octets = value.octets;
     settings.classmark = octets;
     let mut next = seen;
     next.classmark = true;
     next.settings = settings;
-    Turn {
-        taken: true,
-        fault: Fault::Fine,
-        seen: next,
-    }
+    taken_once(seen.classmark, next)
 }
 
 // `identity=`
@@ -123,9 +127,6 @@ fn with_identity(seen: Seen, text: &[u8]) -> Turn
     if !value.good {
         return stopped(Fault::BadIdentity);
     }
-    if seen.identity {
-        return stopped(Fault::Repeated);
-    }
     let mut settings = seen.settings;
     let octets = value.octets;
     settings.identity = octets;
@@ -133,11 +134,7 @@ fn with_identity(seen: Seen, text: &[u8]) -> Turn
     let mut next = seen;
     next.identity = true;
     next.settings = settings;
-    Turn {
-        taken: true,
-        fault: Fault::Fine,
-        seen: next,
-    }
+    taken_once(seen.identity, next)
 }
 
 // `conn_req_ms=`
@@ -148,19 +145,28 @@ fn with_joining(seen: Seen, text: &[u8]) -> Turn
     if !value.good {
         return stopped(Fault::BadJoining);
     }
-    if seen.joining {
-        return stopped(Fault::Repeated);
-    }
     let mut settings = seen.settings;
     settings.joining = value.milliseconds;
     let mut next = seen;
     next.joining = true;
     next.settings = settings;
-    Turn {
-        taken: true,
-        fault: Fault::Fine,
-        seen: next,
+    taken_once(seen.joining, next)
+}
+
+// `present_ms=`
+fn with_invitation(seen: Seen, text: &[u8]) -> Turn
+    ensures { λ r. ⌜ r ≡ turnOf seen (invitationOf (now (text .entry))) ⌝ }
+{
+    let value = settings_values::read_invitation(text);
+    if !value.good {
+        return stopped(Fault::BadInvitation);
     }
+    let mut settings = seen.settings;
+    settings.invitation = value.milliseconds;
+    let mut next = seen;
+    next.invitation = true;
+    next.settings = settings;
+    taken_once(seen.invitation, next)
 }
 
 // What is seen after a line, which is given without its LF.
@@ -178,6 +184,9 @@ pub fn with_line(seen: Seen, line: &[u8]) -> Turn
     }
     if starts_with(line, b"conn_req_ms=") {
         return with_joining(seen, &line[12..]);
+    }
+    if starts_with(line, b"present_ms=") {
+        return with_invitation(seen, &line[11..]);
     }
     stopped(Fault::UnknownName)
 }

@@ -2,7 +2,7 @@
 use Prim.Native.Nat.{ℕ}
 use mathlib.Core.Path.{_≡_, refl}
 use mathlib.Core.List.{List}
-use borrow.Author.Tests.{eq-eqb, ne-eqb}
+use borrow.Author.Tests.{ne-eqb}
 use Rattle.settings.specs.declared.ReadSettings.{ReadSettings}
 use Rattle.settings.specs.Settings.{settingsOf}
 use Rattle.settings_octets.specs.Octets.{octetsOf}
@@ -13,11 +13,11 @@ module _ (file before : List ℕ) (read : ReadSettings) (fault : ℕ) (e : read 
   abbrev pub Tells : SettingsRead → List ℕ → Type 0
   Tells r after = (r ≡ settingsShown (settingsOf file)) × (after ≡ keptOctets before (settingsOf file))
 
-  pub file-refused : (read .answer ≡ 0 → ⊥) → Tells (record { answer = read .answer; fault = fault; line = read .line; joining = 0 }) before
+  pub file-refused : (read .answer ≡ 0 → ⊥) → Tells (record { answer = read .answer; fault = fault; line = read .line; joining = 0; invitation = 0 }) before
   unfolding settingsShown keptOctets
   file-refused n = rw (← e, ne-eqb (read .answer) 0 n, f) (refl, refl)
 
   pub file-taken : read .answer ≡ 0 → (after : List ℕ) → after ≡ octetsOf (read .settings)
-      → Tells (record { answer = 0; fault = fault; line = read .line; joining = read .settings .joining }) after
+      → Tells (record { answer = 0; fault = fault; line = read .line; joining = read .settings .joining; invitation = read .settings .invitation }) after
   unfolding settingsShown keptOctets
   file-taken z after w = rw (← e, z, f) (refl, w)

@@ -10,6 +10,7 @@ pub struct SettingsRead {
     pub fault: u32,
     pub line: usize,
     pub joining: u32,
+    pub invitation: u32,
 }
 
 // Why a line is refused, as a number.
@@ -29,11 +30,13 @@ fn fault_number(fault: Fault) -> u32
         Fault::NoClassmark => 9,
         Fault::NoIdentity => 10,
         Fault::NoJoining => 11,
+        Fault::BadInvitation => 12,
+        Fault::NoInvitation => 13,
     }
 }
 
-// Reads a settings file; its thirteen octets are written where it is taken.
-pub fn read_file(file: &[u8], settings: &mut [u8; 13]) -> SettingsRead
+// Reads a settings file; its twenty-one octets are written where it is taken.
+pub fn read_file(file: &[u8], settings: &mut [u8; 21]) -> SettingsRead
     ensures { λ r. ⌜ r ≡ settingsShown (settingsOf (now (file .entry))) ⌝ }
     ensures { λ _. ⌜ now (settings .exit) ≡ keptOctets (now (settings .entry)) (settingsOf (now (file .entry))) ⌝ }
 {
@@ -47,6 +50,7 @@ pub fn read_file(file: &[u8], settings: &mut [u8; 13]) -> SettingsRead
             fault,
             line: read.line,
             joining: 0,
+            invitation: 0,
         };
     }
     settings_octets::write(values, settings);
@@ -55,5 +59,6 @@ pub fn read_file(file: &[u8], settings: &mut [u8; 13]) -> SettingsRead
         fault,
         line: read.line,
         joining: values.joining,
+        invitation: values.invitation,
     }
 }

@@ -1,14 +1,15 @@
--- What a step is told of settings that were written as octets is what they hold.
-use Prim.Native.Nat.{ℕ, _+_, _-_, min}
+-- What a step and a judgement are told of settings that were written as octets is what they hold.
+use Prim.Native.Nat.{ℕ, _+_, _-_, _*_, _/_, _%_, _<_, min}
 use mathlib.Core.Path.{_≡_, refl, sym, ap, _∙_}
-use mathlib.Core.List.{List}
+use mathlib.Core.List.{List, _++_}
 use native.Mathlib.Omega.{arith}
 use lib.ListN.{length, take, getD, replicate, length-append, length-replicate}
+use lib.Seq.{take-append-le}
 use borrow.Author.Tests.{le-ltb}
 use Rattle.settings_values.specs.declared.Settings.{Settings}
 use Rattle.settings_values.specs.Values.{padded, InRange}
-use Rattle.octets.proofs.Listed.{all-listed}
-use Rattle.settings_octets.specs.Octets.{identityOf, lengthOctet, octetsOf, ownOf, runOf}
+use Rattle.octets.proofs.Listed.{listed, all-listed}
+use Rattle.settings_octets.specs.Octets.{identityOf, lengthOctet, octetsOf, ownOf, runOf, timerOctets, timerAt}
 
 -- Key number and classmark.
 pub own-back : (x : Settings)
@@ -30,4 +31,24 @@ pub identity-back : (x : Settings) → InRange x → identityOf (octetsOf x) ≡
 unfolding octetsOf lengthOctet runOf
 identity-back x r =
     let n : min (x .count) 255 ≡ x .count = omega (arith, r .most) in
-    rw (n, le-ltb 8 (x .count) (r .most)) (ap (take (x .count)) (sym (all-listed 8 (x .identity) (eight x r))))
+    rw (n, le-ltb 8 (x .count) (r .most)) (
+    take-append-le (x .count) (listed 8 0 (x .identity)) (timerOctets (x .joining) ++ timerOctets (x .invitation)) (r .most)
+    ∙ ap (take (x .count)) (sym (all-listed 8 (x .identity) (eight x r))))
+
+-- A number below 2 to the 32nd is its four octets.
+four : (n : ℕ) → n < 4294967296 → n % 256 + 256 * (n / 256 % 256) + 65536 * (n / 65536 % 256) + 16777216 * (n / 16777216 % 256) ≡ n
+four n h =
+    let a : n ≡ n % 256 + 256 * (n / 256) = omega arith in
+    let b : n / 256 ≡ n / 256 % 256 + 256 * (n / 65536) = omega arith in
+    let c : n / 65536 ≡ n / 65536 % 256 + 256 * (n / 16777216) = omega arith in
+    let d : n / 16777216 % 256 ≡ n / 16777216 = omega arith in
+    omega arith
+
+-- The timers of settings.
+pub joining-back : (x : Settings) → x .joining < 4294967296 → timerAt (octetsOf x) 13 ≡ x .joining
+unfolding octetsOf timerOctets timerAt
+joining-back x h = four (x .joining) h
+
+pub invitation-back : (x : Settings) → x .invitation < 4294967296 → timerAt (octetsOf x) 17 ≡ x .invitation
+unfolding octetsOf timerOctets timerAt
+invitation-back x h = four (x .invitation) h

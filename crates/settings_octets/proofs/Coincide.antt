@@ -11,7 +11,7 @@ use Rattle.settings_octets.specs.Octets.{identityRun, octetsOf, ownOf}
 pub own-of-coincides : (s : List ℕ) (a b : Own) → a ≡ ownOf s → b ≡ ownOf s → a ≡ b
 own-of-coincides s = coincide (ownOf s)
 
-pub identity-run-coincides : (s : List ℕ) (a b : Run) → (a ≡ identityRun s) × (a .start + a .count ≤ 13) → (b ≡ identityRun s) × (b .start + b .count ≤ 13) → a ≡ b
+pub identity-run-coincides : (s : List ℕ) (a b : Run) → (a ≡ identityRun s) × (a .start + a .count ≤ 21) → (b ≡ identityRun s) × (b .start + b .count ≤ 21) → a ≡ b
 identity-run-coincides s a b p q = coincide (identityRun s) a b (p .0) (q .0)
 
 pub write-coincides : (x : Settings) (a b : List ℕ) → a ≡ octetsOf x → b ≡ octetsOf x → a ≡ b

@@ -1,15 +1,15 @@
-// The settings as the thirteen octets that a host in C keeps of them: 0 key number, 1 to 3 classmark, 4 length of the own identity,
-// 5 to 12 the identity.
+// The settings as the twenty-one octets that a host in C keeps of them: 0 key number, 1 to 3 classmark, 4 length of the own identity,
+// 5 to 12 the identity, 13 to 16 the joining timer, 17 to 20 the invitation timer, each in milliseconds, low octet first.
 ghost use mathlib.Core.Path.{_≡_};
 ghost use Prim.Native.Nat.{_+_, _≤_};
-ghost use Rattle.settings_octets.specs.Octets.{identityRun, lengthOctet, octetsOf, ownOf, runOf};
+ghost use Rattle.settings_octets.specs.Octets.{identityRun, lengthOctet, octetsOf, ownOf, runOf, timerOctets};
 use element::Run;
 use message::Classmark;
 use reply::Own;
 use settings_values::Settings;
 
 // What the octets say beside the identity.
-pub fn own_of(octets: &[u8; 13]) -> Own
+pub fn own_of(octets: &[u8; 21]) -> Own
     ensures { λ r. ⌜ r ≡ ownOf (now (octets .entry)) ⌝ }
 {
     let classmark = Classmark {
@@ -26,7 +26,7 @@ pub fn own_of(octets: &[u8; 13]) -> Own
 // Where among the octets an identity of a length stands. A length over 8 stays over 8.
 fn run_of(length: u8) -> Run
     ensures { λ r. ⌜ r ≡ runOf length ⌝ }
-    ensures { λ r. ⌜ r .start + r .count ≤ 13 ⌝ }
+    ensures { λ r. ⌜ r .start + r .count ≤ 21 ⌝ }
 {
     let count = length as usize;
     if 8 < count {
@@ -36,9 +36,9 @@ fn run_of(length: u8) -> Run
 }
 
 // Where among the octets the identity stands.
-pub fn identity_run(octets: &[u8; 13]) -> Run
+pub fn identity_run(octets: &[u8; 21]) -> Run
     ensures { λ r. ⌜ r ≡ identityRun (now (octets .entry)) ⌝ }
-    ensures { λ r. ⌜ r .start + r .count ≤ 13 ⌝ }
+    ensures { λ r. ⌜ r .start + r .count ≤ 21 ⌝ }
 {
     run_of(octets[4])
 }
@@ -53,13 +53,27 @@ fn length_octet(count: usize) -> u8
     255
 }
 
-// Writes the thirteen octets of settings.
-pub fn write(settings: Settings, octets: &mut [u8; 13])
+// The four octets of a timer in milliseconds, the lowest first.
+fn timer_octets(milliseconds: u32) -> [u8; 4]
+    ensures { λ r. ⌜ r ≡ timerOctets milliseconds ⌝ }
+{
+    [
+        (milliseconds % 256) as u8,
+        (milliseconds / 256 % 256) as u8,
+        (milliseconds / 65536 % 256) as u8,
+        (milliseconds / 16777216 % 256) as u8,
+    ]
+}
+
+// Writes the twenty-one octets of settings.
+pub fn write(settings: Settings, octets: &mut [u8; 21])
     ensures { λ _. ⌜ now (octets .exit) ≡ octetsOf settings ⌝ }
 {
     let mark = settings.classmark;
     let own = settings.identity;
     let count = length_octet(settings.count);
+    let joining = timer_octets(settings.joining);
+    let invitation = timer_octets(settings.invitation);
     *octets = [
         settings.key,
         mark[0],
@@ -74,5 +88,13 @@ pub fn write(settings: Settings, octets: &mut [u8; 13])
         own[5],
         own[6],
         own[7],
+        joining[0],
+        joining[1],
+        joining[2],
+        joining[3],
+        invitation[0],
+        invitation[1],
+        invitation[2],
+        invitation[3],
     ];
 }

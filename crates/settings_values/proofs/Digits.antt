@@ -10,7 +10,6 @@ use lib.Dec.{leb, ltb}
 use lib.ListN.{length, getD, drop, set, drop-of-length-le, length-drop}
 use lib.Seq.{drop-cons, sets}
 use Rattle.settings_values.specs.Digits.{between, digit, digits, octetsOf, numberFrom}
-use Rattle.timer.specs.Timers.{joiningGreatest}
 use Rattle.settings_values.specs.declared.Hex.{Hex}
 use Rattle.settings_values.specs.Values.{noHex, hexFrom, decimalFrom}
 
@@ -117,31 +116,33 @@ unfolding numberFrom
 number-grows n [] = omega arith
 number-grows n (b ∷ text) = let h : 10 * n + digit b ≤ numberFrom (10 * n + digit b) text = number-grows (10 * n + digit b) text in omega arith
 
-over : (n : ℕ) (text : List ℕ) → joiningGreatest < n → decimalFrom n text ≡ 0
-unfolding decimalFrom
-over n text h =
-    let g : n ≤ numberFrom n text = number-grows n text in
-    let k : joiningGreatest < numberFrom n text = omega arith in
-    rw (lt-leb (numberFrom n text) joiningGreatest k, and-false (digits 10 text))
+-- A number that is at most some greatest, in the terms of the loop that reads it.
+module _ (greatest : ℕ) where
+  over : (n : ℕ) (text : List ℕ) → greatest < n → decimalFrom greatest n text ≡ 0
+  unfolding decimalFrom
+  over n text h =
+      let g : n ≤ numberFrom n text = number-grows n text in
+      let k : greatest < numberFrom n text = omega arith in
+      rw (lt-leb (numberFrom n text) greatest k, and-false (digits 10 text))
 
-decimal-one : (n b : ℕ) (text : List ℕ) → digit b < 10 → decimalFrom n (b ∷ text) ≡ decimalFrom (10 * n + digit b) text
-unfolding decimalFrom digits numberFrom
-decimal-one n b text h = rw (lt-ltb (digit b) 10 h)
+  decimal-one : (n b : ℕ) (text : List ℕ) → digit b < 10 → decimalFrom greatest n (b ∷ text) ≡ decimalFrom greatest (10 * n + digit b) text
+  unfolding decimalFrom digits numberFrom
+  decimal-one n b text h = rw (lt-ltb (digit b) 10 h)
 
--- A turn of the loop that reads a decimal number.
-module _ (n place : ℕ) (text : List ℕ) (next : ℕ) (h : place < length text) (p : next ≡ digit (getD text place 0)) where
-  pub decimal-next : next < 10 → decimalFrom n (drop place text) ≡ decimalFrom (10 * n + next) (drop (place + 1) text)
-  decimal-next k =
-      let j : digit (getD text place 0) < 10 = omega arith in
-      rw (drop-cons text place 0 h, decimal-one n (getD text place 0) (drop (suc place) text) j, ← p, add-one place)
+  -- A turn of the loop.
+  module _ (n place : ℕ) (text : List ℕ) (next : ℕ) (h : place < length text) (p : next ≡ digit (getD text place 0)) where
+    pub decimal-next : next < 10 → decimalFrom greatest n (drop place text) ≡ decimalFrom greatest (10 * n + next) (drop (place + 1) text)
+    decimal-next k =
+        let j : digit (getD text place 0) < 10 = omega arith in
+        rw (drop-cons text place 0 h, decimal-one n (getD text place 0) (drop (suc place) text) j, ← p, add-one place)
 
-  pub decimal-bad : 10 ≤ next → 0 ≡ decimalFrom n (drop place text)
-  unfolding decimalFrom digits
-  decimal-bad k = rw (drop-cons text place 0 h, ← p, le-ltb next 10 k)
+    pub decimal-bad : 10 ≤ next → 0 ≡ decimalFrom greatest n (drop place text)
+    unfolding decimalFrom digits
+    decimal-bad k = rw (drop-cons text place 0 h, ← p, le-ltb next 10 k)
 
-  pub decimal-over : next < 10 → joiningGreatest < 10 * n + next → 0 ≡ decimalFrom n (drop place text)
-  decimal-over k l = sym (decimal-next k ∙ over (10 * n + next) (drop (place + 1) text) l)
+    pub decimal-over : next < 10 → greatest < 10 * n + next → 0 ≡ decimalFrom greatest n (drop place text)
+    decimal-over k l = sym (decimal-next k ∙ over (10 * n + next) (drop (place + 1) text) l)
 
-pub decimal-end : (n place : ℕ) (text : List ℕ) → n ≤ joiningGreatest → length text ≤ place → decimalFrom n (drop place text) ≡ n
-unfolding decimalFrom digits numberFrom
-decimal-end n place text k h = rw (drop-of-length-le text h, le-leb n joiningGreatest k)
+  pub decimal-end : (n place : ℕ) (text : List ℕ) → n ≤ greatest → length text ≤ place → decimalFrom greatest n (drop place text) ≡ n
+  unfolding decimalFrom digits numberFrom
+  decimal-end n place text k h = rw (drop-of-length-le text h, le-leb n greatest k)

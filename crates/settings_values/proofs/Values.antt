@@ -1,4 +1,4 @@
--- Laws of the four values, in the terms of the functions that read them.
+-- Laws of the five values, in the terms of the functions that read them.
 use Prim.Native.Nat.{ℕ, zero, suc, _+_, _-_, _*_, _≤_, _<_, _%_, _/_}
 use mathlib.Core.Path.{_≡_, refl, sym, ap, _∙_}
 use mathlib.Core.Bool.{Bool, true, false, cond, not, _&&_, and-false}
@@ -9,12 +9,11 @@ use lib.Dec.{leb, eqb}
 use lib.ListN.{length, getD, drop, replicate}
 use lib.Seq.{sets, sets-eq}
 use Rattle.octets.proofs.Choice.{never}
-use Rattle.timer.specs.Timers.{joiningLeast, joiningGreatest}
 use Rattle.settings_values.specs.declared.ClassmarkRead.{ClassmarkRead}
-use Rattle.settings_values.specs.declared.JoiningRead.{JoiningRead}
+use Rattle.settings_values.specs.declared.MillisecondsRead.{MillisecondsRead}
 use Rattle.settings_values.specs.declared.Hex.{Hex}
 use Rattle.settings_values.specs.Digits.{digit, digits, octetsOf, numberFrom}
-use Rattle.settings_values.specs.Values.{noKey, keyRead, noClassmark, classmarkRead, noIdentity, identityRead, noJoining, joiningRead, noHex, hexOf, decimalFrom, decimalOf, padded}
+use Rattle.settings_values.specs.Values.{noKey, keyRead, noClassmark, classmarkRead, noIdentity, identityRead, noMilliseconds, millisecondsRead, noHex, hexOf, decimalFrom, decimalOf, padded}
 use Rattle.settings_values.proofs.Digits.{hexWhole, hex-whole}
 
 -- `cksn=`
@@ -133,37 +132,38 @@ module _ (text : List ℕ) (h : Hex) (p : h ≡ hexOf text) (low : 2 ≤ length 
       let o : h .octets ≡ padded (octetsOf text) = t .1 ∙ stored (octetsOf text) (omega arith) in
       rw (o, ← c, t .0, le-leb 2 (length text) low, le-leb (length text) 16 high, eq-eqb (length text % 2) 0 even)
 
--- `conn_req_ms=`
-pub joining-empty : (text : List ℕ) → length text ≡ 0 → noJoining ≡ joiningRead text
-unfolding joiningRead digits numberFrom
-joining-empty [] h = refl
-joining-empty (b ∷ text) h = let z : ⊥ = omega arith in elim z [ ]
+-- `conn_req_ms=` and `present_ms=`: milliseconds from a least, which is not 0, to a greatest.
+milliseconds : ℕ → MillisecondsRead
+milliseconds n = record { good = true; milliseconds = n }
 
-pub joining-zero : (text : List ℕ) → getD text 0 0 ≡ 0x30 → noJoining ≡ joiningRead text
-unfolding joiningRead
-joining-zero text h = rw (eq-eqb (getD text 0 0) 0x30 h, and-false (digits 10 text))
+module _ (least greatest : ℕ) (some : 0 < least) where
+  pub milliseconds-empty : (text : List ℕ) → length text ≡ 0 → noMilliseconds ≡ millisecondsRead least greatest text
+  unfolding millisecondsRead digits numberFrom
+  milliseconds-empty [] h = rw (lt-leb least 0 some)
+  milliseconds-empty (b ∷ text) h = let z : ⊥ = omega arith in elim z [ ]
 
-joining : ℕ → JoiningRead
-joining n = record { good = true; milliseconds = n }
+  pub milliseconds-zero : (text : List ℕ) → getD text 0 0 ≡ 0x30 → noMilliseconds ≡ millisecondsRead least greatest text
+  unfolding millisecondsRead
+  milliseconds-zero text h = rw (eq-eqb (getD text 0 0) 0x30 h, and-false (digits 10 text))
 
-module _ (text : List ℕ) (n : ℕ) (p : n ≡ decimalOf text) where
-  pub joining-under : n < joiningLeast → noJoining ≡ joiningRead text
-  unfolding joiningRead decimalOf decimalFrom
-  joining-under h = go (digits 10 text) (not (eqb (getD text 0 0) 0x30)) (leb (numberFrom 0 text) joiningGreatest) p
-    where
-      go : (d z l : Bool) → n ≡ cond (d && l) (numberFrom 0 text) 0
-          → noJoining ≡ cond (d && z && leb joiningLeast (numberFrom 0 text) && l) (record { good = true; milliseconds = numberFrom 0 text }) noJoining
-      go false z l q = refl
-      go true false l q = refl
-      go true true true q = let k : numberFrom 0 text < joiningLeast = omega arith in rw (lt-leb joiningLeast (numberFrom 0 text) k)
-      go true true false q = rw (and-false (leb joiningLeast (numberFrom 0 text)))
+  module _ (text : List ℕ) (n : ℕ) (p : n ≡ decimalOf greatest text) where
+    pub milliseconds-under : n < least → noMilliseconds ≡ millisecondsRead least greatest text
+    unfolding millisecondsRead decimalOf decimalFrom
+    milliseconds-under h = go (digits 10 text) (not (eqb (getD text 0 0) 0x30)) (leb (numberFrom 0 text) greatest) p
+      where
+        go : (d z l : Bool) → n ≡ cond (d && l) (numberFrom 0 text) 0
+            → noMilliseconds ≡ cond (d && z && leb least (numberFrom 0 text) && l) (record { good = true; milliseconds = numberFrom 0 text }) noMilliseconds
+        go false z l q = refl
+        go true false l q = refl
+        go true true true q = let k : numberFrom 0 text < least = omega arith in rw (lt-leb least (numberFrom 0 text) k)
+        go true true false q = rw (and-false (leb least (numberFrom 0 text)))
 
-  pub joining-good : (getD text 0 0 ≡ 0x30 → ⊥) → joiningLeast ≤ n → record { good = true; milliseconds = n } ≡ joiningRead text
-  unfolding joiningRead decimalOf decimalFrom joining
-  joining-good f h = rw (ne-eqb (getD text 0 0) 0x30 f) (go (digits 10 text) (leb (numberFrom 0 text) joiningGreatest) p)
-    where
-      go : (d l : Bool) → n ≡ cond (d && l) (numberFrom 0 text) 0
-          → joining n ≡ cond (d && true && leb joiningLeast (numberFrom 0 text) && l) (joining (numberFrom 0 text)) noJoining
-      go false l q = let z : ⊥ = omega arith in elim z [ ]
-      go true false q = let z : ⊥ = omega arith in elim z [ ]
-      go true true q = let k : joiningLeast ≤ numberFrom 0 text = omega arith in rw (le-leb joiningLeast (numberFrom 0 text) k, q)
+    pub milliseconds-good : (getD text 0 0 ≡ 0x30 → ⊥) → least ≤ n → record { good = true; milliseconds = n } ≡ millisecondsRead least greatest text
+    unfolding millisecondsRead decimalOf decimalFrom milliseconds
+    milliseconds-good f h = rw (ne-eqb (getD text 0 0) 0x30 f) (go (digits 10 text) (leb (numberFrom 0 text) greatest) p)
+      where
+        go : (d l : Bool) → n ≡ cond (d && l) (numberFrom 0 text) 0
+            → milliseconds n ≡ cond (d && true && leb least (numberFrom 0 text) && l) (milliseconds (numberFrom 0 text)) noMilliseconds
+        go false l q = let z : ⊥ = omega arith in elim z [ ]
+        go true false q = let z : ⊥ = omega arith in elim z [ ]
+        go true true q = let k : least ≤ numberFrom 0 text = omega arith in rw (le-leb least (numberFrom 0 text) k, q)

@@ -1,16 +1,18 @@
 // The values of a settings file (document 01, "Settings file"): what they are, and how each is read from the text behind its name.
+ghost use Prim.Native.Nat.{_<_};
 ghost use mathlib.Core.Path.{_≡_};
 ghost use Rattle.settings_values.specs.Digits.{digit};
-ghost use Rattle.settings_values.specs.Values.{classmarkRead, decimalOf, hexOf, identityRead, joiningRead, keyRead};
+ghost use Rattle.settings_values.specs.Values.{classmarkRead, decimalOf, hexOf, identityRead, invitationRead, joiningRead, keyRead, millisecondsRead};
 use timer::Timers;
 
-// Ciphering key number, classmark, own identity (its first `count` octets, then zeros) and joining timer in milliseconds.
+// Ciphering key number, classmark, own identity (its first `count` octets, then zeros), and the joining and the invitation timer in milliseconds.
 pub struct Settings {
     pub key: u8,
     pub classmark: [u8; 3],
     pub identity: [u8; 8],
     pub count: usize,
     pub joining: u32,
+    pub invitation: u32,
 }
 
 impl Settings {
@@ -21,6 +23,7 @@ impl Settings {
         identity: [0, 0, 0, 0, 0, 0, 0, 0],
         count: 0,
         joining: 0,
+        invitation: 0,
     };
 }
 
@@ -41,7 +44,7 @@ pub struct IdentityRead {
     pub count: usize,
 }
 
-pub struct JoiningRead {
+pub struct MillisecondsRead {
     pub good: bool,
     pub milliseconds: u32,
 }
@@ -68,8 +71,8 @@ impl IdentityRead {
     };
 }
 
-impl JoiningRead {
-    const NONE: JoiningRead = JoiningRead {
+impl MillisecondsRead {
+    const NONE: MillisecondsRead = MillisecondsRead {
         good: false,
         milliseconds: 0,
     };
@@ -141,22 +144,24 @@ fn hex_octets(text: &[u8]) -> Hex
     }
 }
 
-// The number that decimal digits write, if it is at most the greatest joining timer; and 0 otherwise.
-fn decimal(text: &[u8]) -> u32
-    ensures { λ r. ⌜ r ≡ decimalOf (now (text .entry)) ⌝ }
+// The number that decimal digits write, if it is at most `greatest`; and 0 otherwise.
+fn decimal(text: &[u8], greatest: u32) -> u32
+    ensures { λ r. ⌜ r ≡ decimalOf greatest (now (text .entry)) ⌝ }
 {
-    let mut number: u32 = 0;
+    // In 64 bits a digit more cannot wrap, whatever the greatest.
+    let most = greatest as u64;
+    let mut number: u64 = 0;
     for place in 0..text.len() {
         let digit = digit_of(text[place]);
         if 10 <= digit {
             return 0;
         }
-        number = 10 * number + digit as u32;
-        if Timers::JOINING_GREATEST < number {
+        number = 10 * number + digit as u64;
+        if most < number {
             return 0;
         }
     }
-    number
+    number as u32
 }
 
 // `cksn=`: one digit 0 to 7.
@@ -220,22 +225,37 @@ pub fn read_identity(text: &[u8]) -> IdentityRead
     }
 }
 
-// `conn_req_ms=`: decimal, no leading zero, 10000 to 30000.
-pub fn read_joining(text: &[u8]) -> JoiningRead
-    ensures { λ r. ⌜ r ≡ joiningRead (now (text .entry)) ⌝ }
+// Decimal, no leading zero, from the least to the greatest. The least is not 0, which `decimal` answers for what is no number.
+fn read_milliseconds(text: &[u8], least: u32, greatest: u32) -> MillisecondsRead
+    requires { ⌜ 0 < least ⌝ }
+    ensures { λ r. ⌜ r ≡ millisecondsRead least greatest (now (text .entry)) ⌝ }
 {
     if text.len() == 0 {
-        return JoiningRead::NONE;
+        return MillisecondsRead::NONE;
     }
     if text[0] == b'0' {
-        return JoiningRead::NONE;
+        return MillisecondsRead::NONE;
     }
-    let number = decimal(text);
-    if number < Timers::JOINING_LEAST {
-        return JoiningRead::NONE;
+    let number = decimal(text, greatest);
+    if number < least {
+        return MillisecondsRead::NONE;
     }
-    JoiningRead {
+    MillisecondsRead {
         good: true,
         milliseconds: number,
     }
+}
+
+// `conn_req_ms=`: 10000 to 30000.
+pub fn read_joining(text: &[u8]) -> MillisecondsRead
+    ensures { λ r. ⌜ r ≡ joiningRead (now (text .entry)) ⌝ }
+{
+    read_milliseconds(text, Timers::JOINING_LEAST, Timers::JOINING_GREATEST)
+}
+
+// `present_ms=`: 1000 to 600000.
+pub fn read_invitation(text: &[u8]) -> MillisecondsRead
+    ensures { λ r. ⌜ r ≡ invitationRead (now (text .entry)) ⌝ }
+{
+    read_milliseconds(text, Timers::INVITATION_LEAST, Timers::INVITATION_GREATEST)
 }

@@ -30,7 +30,7 @@ pub(crate) fn tell_too_long(file: &[u8], number: usize) -> u8 {
     tell_number_of(number);
     tell(b"the file goes on here past ");
     tell_place(file.len());
-    tell(b" bytes; settings are four lines, each once, and have at most 68 bytes\n");
+    tell(b" bytes; settings are five lines, each once, and have at most 86 bytes\n");
     1
 }
 
@@ -66,6 +66,7 @@ fn tell_line(line: &[u8], fault: Fault) {
         Fault::NoClassmark => tell(b"there is no such line\n"),
         Fault::NoIdentity => tell(b"there is no such line\n"),
         Fault::NoJoining => tell(b"there is no such line\n"),
+        Fault::NoInvitation => tell(b"there is no such line\n"),
         _ => tell_text(line),
     }
 }
@@ -95,7 +96,7 @@ fn tell_mend(fault: Fault) {
         Fault::Fine => tell(b"nothing is wrong"),
         Fault::NoLineFeed => tell(b"the file ends without LF: end this line too with a line end"),
         Fault::UnknownName => tell(
-            b"a line starts with cksn= or classmark= or identity= or conn_req_ms=, in lower case, without a space; no line is empty",
+            b"a line starts with cksn= or classmark= or identity= or conn_req_ms= or present_ms=, in lower case, without a space; no line is empty",
         ),
         Fault::BadKey => tell(b"cksn wants one digit 0 to 7 and nothing else"),
         Fault::BadClassmark => tell(b"classmark wants 6 hexadecimal digits and nothing else"),
@@ -104,6 +105,9 @@ fn tell_mend(fault: Fault) {
         ),
         Fault::BadJoining => tell(
             b"conn_req_ms wants 10000 to 30000 without a leading zero and nothing else",
+        ),
+        Fault::BadInvitation => tell(
+            b"present_ms wants 1000 to 600000 without a leading zero and nothing else",
         ),
         Fault::Repeated => tell(
             b"this name stands on a line before already, and each stands once: take one of the two lines out",
@@ -116,5 +120,8 @@ fn tell_mend(fault: Fault) {
             b"the line identity= is missing: add it, with 2 to 16 hexadecimal digits, an even count",
         ),
         Fault::NoJoining => tell(b"the line conn_req_ms= is missing: add it, with 10000 to 30000"),
+        Fault::NoInvitation => tell(
+            b"the line present_ms= is missing: add it, with 1000 to 600000",
+        ),
     }
 }

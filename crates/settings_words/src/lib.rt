@@ -35,6 +35,7 @@ pub fn tell_settings(path: &[u8], file: &[u8], whole: bool) -> u8 {
         Fault::BadClassmark => tell_fault(file, line, fault),
         Fault::BadIdentity => tell_fault(file, line, fault),
         Fault::BadJoining => tell_fault(file, line, fault),
+        Fault::BadInvitation => tell_fault(file, line, fault),
         Fault::Repeated => tell_fault(file, line, fault),
         _ => tell_too_long(file, line),
     }
@@ -53,7 +54,13 @@ fn tell_read(settings: Settings) -> u8 {
     tell(b" (octets: ");
     tell_place(count);
     tell(b")\njoining timer T_conn req ");
-    io::print_decimal(STDOUT_FILENO, settings.joining as u64);
-    tell(b" ms\n");
+    tell_milliseconds(settings.joining);
+    tell(b"invitation timer T_pres ");
+    tell_milliseconds(settings.invitation);
     0
+}
+
+fn tell_milliseconds(milliseconds: u32) {
+    io::print_decimal(STDOUT_FILENO, milliseconds as u64);
+    tell(b" ms\n");
 }

@@ -46,7 +46,7 @@ fn say_settings(buffer: &mut [u8], output: Output, settings: Settings) -> Output
     let key = say_key(buffer, output, settings.key);
     let mark = say_octets(buffer, key, &classmark);
     let own = say_octets(buffer, mark, part(&identity, 0, count));
-    say_joining(buffer, own, settings.joining)
+    say_timers(buffer, own, settings.joining, settings.invitation)
 }
 
 fn say_key(buffer: &mut [u8], output: Output, key: u8) -> Output {
@@ -60,8 +60,14 @@ fn say_octets(buffer: &mut [u8], output: Output, octets: &[u8]) -> Output {
     say_hex(buffer, space, octets)
 }
 
-fn say_joining(buffer: &mut [u8], output: Output, joining: u32) -> Output {
+// The two timers, and the line's end.
+fn say_timers(buffer: &mut [u8], output: Output, joining: u32, invitation: u32) -> Output {
+    let first = say_milliseconds(buffer, output, joining);
+    let second = say_milliseconds(buffer, first, invitation);
+    say(buffer, second, b"\n")
+}
+
+fn say_milliseconds(buffer: &mut [u8], output: Output, milliseconds: u32) -> Output {
     let space = say(buffer, output, b" ");
-    let timer = say_decimal(buffer, space, joining as u64);
-    say(buffer, timer, b"\n")
+    say_decimal(buffer, space, milliseconds as u64)
 }

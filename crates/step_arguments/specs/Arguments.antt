@@ -10,18 +10,18 @@ unfoldable pub settingsOut : ℕ → ℕ → Bool
 settingsOut key identity = ltb 7 key || (eqb identity 0 || ltb 8 identity)
 
 -- Answer 4: event number, mode, a transaction value over 6, ciphering key number over 7, own identity of 0 or over 8 octets;
--- mode and transaction value only where the event carries them.
-unfoldable pub outOfRange : (key identity number value mode : ℕ) → Bool
-outOfRange key identity number value mode =
+-- mode and transaction value only where the event carries them. Event numbers go from 1 to `greatest`.
+unfoldable pub outOfRange : (greatest key identity number value mode : ℕ) → Bool
+outOfRange greatest key identity number value mode =
     settingsOut key identity ||
-    ((eqb number 0 || ltb 18 number) ||
+    ((eqb number 0 || ltb greatest number) ||
     (eqb number 18 && ltb 1 mode ||
     (eqb number 1 || (eqb number 2 || eqb number 10)) && ltb 6 value))
 
 -- Why a step is refused whatever the context, as the answer's number, and 0 where it is not: 5, 6 and 4 in their order. `octets` is the length of the
 -- message received, `room` that of the lent reply buffer.
-unfoldable pub argumentRefusal : (key identity number value mode octets room : ℕ) → ℕ
-argumentRefusal key identity number value mode octets room =
+unfoldable pub argumentRefusal : (greatest key identity number value mode octets room : ℕ) → ℕ
+argumentRefusal greatest key identity number value mode octets room =
     cond (ltb room 255) 5
     (cond (eqb number 18 && ltb 251 octets) 6
-    (cond (outOfRange key identity number value mode) 4 0))
+    (cond (outOfRange greatest key identity number value mode) 4 0))

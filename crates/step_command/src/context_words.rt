@@ -51,7 +51,7 @@ pub(crate) fn lent_context(line: &[u8], words: Words) -> LentWord {
     let state_words = state.words;
     let parameters = small_word(line, state_words, 15);
     let parameters_words = parameters.words;
-    let timers = small_word(line, parameters_words, 15);
+    let timers = small_word(line, parameters_words, 31);
     let timers_words = timers.words;
     let value = small_word(line, timers_words, 255);
     let value_words = value.words;
@@ -105,9 +105,10 @@ fn parameters_of(number: u8) -> Parameters {
     }
 }
 
-// 8 T_MM-est + 4 T_term + 2 T_conn req + T_no channel.
+// 16 T_pres + 8 T_MM-est + 4 T_term + 2 T_conn req + T_no channel.
 fn timers_of(number: u8) -> Timers {
     Timers {
+        pres: number / 16 % 2 == 1,
         mmest: number / 8 % 2 == 1,
         term: number / 4 % 2 == 1,
         connreq: number / 2 % 2 == 1,
@@ -145,8 +146,14 @@ fn weight(set: bool, weighs: u8) -> u8
     0
 }
 
-fn four(a: bool, b: bool, c: bool, d: bool) -> u8 {
+fn four(a: bool, b: bool, c: bool, d: bool) -> u8
+    ensures { λ r. ⌜ r ≤ 15 ⌝ }
+{
     weight(a, 8) + weight(b, 4) + weight(c, 2) + weight(d, 1)
+}
+
+fn timers_number(timers: Timers) -> u8 {
+    weight(timers.pres, 16) + four(timers.mmest, timers.term, timers.connreq, timers.nochannel)
 }
 
 pub(crate) fn say_context(buffer: &mut [u8], output: Output, context: Context) -> Output {
@@ -164,7 +171,7 @@ pub(crate) fn say_context(buffer: &mut [u8], output: Output, context: Context) -
             parameters.datt,
             parameters.uatt,
         ),
-        timers: four(timers.mmest, timers.term, timers.connreq, timers.nochannel),
+        timers: timers_number(timers),
         value: context.value,
         reference,
         from: remembered_number(remembered),

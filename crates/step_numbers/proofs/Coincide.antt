@@ -7,14 +7,14 @@ use lib.Seq.{sets}
 use Rattle.octets.proofs.Coincide.{coincide}
 use Rattle.context.specs.Context.{cleared}
 use Rattle.context_octets.specs.Octets.{octetsOf}
-use Rattle.step_numbers.specs.declared.Event.{Event}
+use Rattle.step_numbers.specs.declared.Occurrence.{Occurrence}
 use Rattle.step_numbers.specs.declared.Step.{Step}
 use Rattle.step_numbers.specs.Stepping.{Call, Comes, callOf}
 
 pub clear-coincides : (a b : ℕ) (e f : List ℕ) → (a ≡ 0) × (e ≡ octetsOf cleared) → (b ≡ 0) × (f ≡ octetsOf cleared) → (a ≡ b) × (e ≡ f)
 clear-coincides a b e f p q = (coincide 0 a b (p .0) (q .0), coincide (octetsOf cleared) e f (p .1) (q .1))
 
-pub step-coincides : (c s d m : List ℕ) (event : Event) (a b : Step) (x y e f : List ℕ) → Comes (callOf c s (length d) event m) d a x e
+pub step-coincides : (c s d m : List ℕ) (event : Occurrence) (a b : Step) (x y e f : List ℕ) → Comes (callOf c s (length d) event m) d a x e
     → Comes (callOf c s (length d) event m) d b y f → (a ≡ b) × (x ≡ y) × (e ≡ f)
 step-coincides c s d m event a b x y e f p q =
     let call : Call = callOf c s (length d) event m in

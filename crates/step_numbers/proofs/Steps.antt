@@ -16,12 +16,12 @@ use Rattle.radio.specs.Step.{Reaction, shown, stepOf}
 use Rattle.context_octets.specs.declared.Reading.the-variants.{Is, NoContext}
 use Rattle.context_octets.specs.Octets.{contextOf, octetsOf}
 use Rattle.settings_octets.specs.Octets.{identityOf, identityRun, ownOf}
-use Rattle.step_numbers.specs.declared.Event.{Event}
+use Rattle.step_numbers.specs.declared.Occurrence.{Occurrence}
 use Rattle.step_numbers.specs.declared.Step.{Step}
 use Rattle.step_numbers.specs.Stepping.{Comes, callFrom, callOf, callOn, called, happenedOf, noCall, stepShown}
 
 -- The step by value: a part from a start to an end is the run.
-module _ (own : Own) (s d : List ℕ) (start count : ℕ) (x : Context) (e : Event) (h : Happened) (m : List ℕ) (a : h ≡ happenedOf e) where
+module _ (own : Own) (s d : List ℕ) (start count : ℕ) (x : Context) (e : Occurrence) (h : Happened) (m : List ℕ) (a : h ≡ happenedOf e) where
   same : stepOf newest own (part s start (start + count - start)) (length d) x h m ≡ stepOf newest own (part s start count) (length d) x (happenedOf e) m
   same = let n : start + count - start ≡ count = omega arith in rw (a, n)
 
@@ -32,7 +32,7 @@ module _ (own : Own) (s d : List ℕ) (start count : ℕ) (x : Context) (e : Eve
   stepped-run r after p q = (p ∙ ap shown same, q ∙ ap (λ (z : Reaction). sets d 0 (z .reply)) same)
 
 -- From a context that was read.
-module _ (s d : List ℕ) (x : Context) (e : Event) (m : List ℕ) (own : Own) (run : Run) (o : own ≡ ownOf s) (u : run ≡ identityRun s) where
+module _ (s d : List ℕ) (x : Context) (e : Occurrence) (m : List ℕ) (own : Own) (run : Run) (o : own ≡ ownOf s) (u : run ≡ identityRun s) where
   same-from : stepOf newest own (part s (run .start) (run .count)) (length d) x (happenedOf e) m ≡ stepOf newest (ownOf s) (identityOf s) (length d) x (happenedOf e) m
   same-from = rw (o, u)
 
@@ -49,7 +49,7 @@ module _ (s d : List ℕ) (x : Context) (e : Event) (m : List ℕ) (own : Own) (
       )
 
 -- The call: the octets are a context, or none.
-module _ (c s d : List ℕ) (e : Event) (m : List ℕ) where
+module _ (c s d : List ℕ) (e : Occurrence) (m : List ℕ) where
   pub call-is : (x : Context) → contextOf c ≡ Is x → (r : Step) (octets after : List ℕ) → Comes (callFrom s (length d) e m x) d r octets after
       → Comes (callOf c s (length d) e m) d r octets after
   unfolding callOf callOn

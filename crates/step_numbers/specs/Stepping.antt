@@ -1,4 +1,4 @@
--- The step, as C calls it: sixteen octets of context, thirteen of settings, an event in numbers, a message and a reply buffer of a length.
+-- The step, as C calls it: sixteen octets of context, twenty-one of settings, an event in numbers, a message and a reply buffer of a length.
 use Prim.Native.Nat.{ℕ}
 use mathlib.Core.Path.{_≡_}
 use mathlib.Core.List.{List, []}
@@ -13,11 +13,11 @@ use Rattle.context_octets.specs.declared.Reading.{Reading}
 use Rattle.context_octets.specs.declared.Reading.the-variants.{Is, NoContext}
 use Rattle.context_octets.specs.Octets.{contextOf, octetsOf}
 use Rattle.settings_octets.specs.Octets.{identityOf, ownOf}
-use Rattle.step_numbers.specs.declared.Event.{Event}
+use Rattle.step_numbers.specs.declared.Occurrence.{Occurrence}
 use Rattle.step_numbers.specs.declared.Step.{Step}
 
 -- An event as the step takes it.
-abbrev pub happenedOf : Event → Happened
+abbrev pub happenedOf : Occurrence → Happened
 happenedOf e = record {
   number = e .number;
   value = e .value;
@@ -44,17 +44,17 @@ unfoldable pub called : Reaction → Call
 called r = record { step = stepShown (shown r .outcome); context = octetsOf (r .context); reply = r .reply }
 
 -- The call where the sixteen octets are a context.
-unfoldable pub callFrom : (settings : List ℕ) (room : ℕ) → Event → (message : List ℕ) → Context → Call
+unfoldable pub callFrom : (settings : List ℕ) (room : ℕ) → Occurrence → (message : List ℕ) → Context → Call
 callFrom s room e m x = called (stepOf newest (ownOf s) (identityOf s) room x (happenedOf e) m)
 
 -- Answer 7 and nothing changed, where they are none.
 abbrev pub noCall : List ℕ → Call
 noCall c = record { step = record { answer = 7; reason = 0; actions = 0; count = 0 }; context = c; reply = [] }
 
-unfoldable pub callOn : (context settings : List ℕ) (room : ℕ) → Event → (message : List ℕ) → Reading → Call
+unfoldable pub callOn : (context settings : List ℕ) (room : ℕ) → Occurrence → (message : List ℕ) → Reading → Call
 callOn c s room e m (Is x) = callFrom s room e m x
 callOn c s room e m NoContext = noCall c
 
 -- The call.
-unfoldable pub callOf : (context settings : List ℕ) (room : ℕ) → Event → (message : List ℕ) → Call
+unfoldable pub callOf : (context settings : List ℕ) (room : ℕ) → Occurrence → (message : List ℕ) → Call
 callOf c s room e m = callOn c s room e m (contextOf c)

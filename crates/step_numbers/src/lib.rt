@@ -18,8 +18,9 @@ use radio::Outcome;
 use radio::Stepped;
 use reply::Own;
 
+// An event and its data, in C's numbers; what it does not carry has no effect.
 #[repr(C)]
-pub struct Event {
+pub struct Occurrence {
     pub number: u32,
     pub value: u8,
     pub mode: u8,
@@ -46,7 +47,7 @@ pub fn clear_context(context: &mut [u8; 16]) -> u32
 }
 
 // An event as the step takes it.
-fn happened_of(event: Event) -> Happened
+fn happened_of(event: Occurrence) -> Happened
     ensures { λ r. ⌜ r ≡ happenedOf event ⌝ }
 {
     Happened {
@@ -80,7 +81,7 @@ fn stepped(
     own: Own,
     settings: &[u8],
     run: Run,
-    event: Event,
+    event: Occurrence,
     message: &[u8],
     reply: &mut [u8],
 ) -> Stepped
@@ -105,8 +106,8 @@ fn stepped(
 fn step_from(
     from: Context,
     context: &mut [u8; 16],
-    settings: &[u8; 13],
-    event: Event,
+    settings: &[u8; 21],
+    event: Occurrence,
     message: &[u8],
     reply: &mut [u8],
 ) -> Step
@@ -125,8 +126,8 @@ fn step_from(
 // The step.
 pub fn take_step(
     context: &mut [u8; 16],
-    settings: &[u8; 13],
-    event: Event,
+    settings: &[u8; 21],
+    event: Occurrence,
     message: &[u8],
     reply: &mut [u8],
 ) -> Step

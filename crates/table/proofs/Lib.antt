@@ -6,5 +6,6 @@ pub mod Reading
 pub mod Walk
 pub mod Points
 pub mod Start
-pub mod OneTimer
+pub mod TwoTimers
+pub mod NeverRuns
 pub mod Example

@@ -7,4 +7,5 @@ pub mod Reading
 pub mod Start
 pub mod Points
 pub mod Recorded
-pub mod OneTimer
+pub mod TwoTimers
+pub mod NeverRuns

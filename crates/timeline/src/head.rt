@@ -1,4 +1,6 @@
-// The picture's head: how things look, what the picture shows and does not show, what the times say of the joining timer, and what the signs mean.
+// The picture's head: how things look, what the picture shows and does not show, what the times say of the joining and the invitation timer, and what the
+// signs mean.
+ghost use Prim.Native.Nat.{_≤_};
 use crate::band::Extent;
 use crate::place::MARGIN;
 use crate::place::Place;
@@ -12,16 +14,28 @@ use drawing::write_escaped;
 use drawing::write_form;
 use log_words::entry::write_clock;
 use log_words::fault::write_fault;
+use log_words::has_invitation_timer;
 use saying::write_count;
 use saying::write_text;
+use timer::Window;
 use version::Table;
 
-// Where the first band starts; a log that breaks off has one line more.
-pub(crate) fn top(broken: bool) -> u64 {
-    if broken {
-        return 168;
+// The line that a log with invitation timers has more moves what stands below it by so much.
+fn moved(table: Table) -> u64
+    ensures { λ r. ⌜ r ≤ 18 ⌝ }
+{
+    if has_invitation_timer(table) {
+        return 18;
     }
-    148
+    0
+}
+
+// Where the first band starts; a log that breaks off has one line more.
+pub(crate) fn top(table: Table, broken: bool) -> u64 {
+    if broken {
+        return 168 + moved(table);
+    }
+    148 + moved(table)
 }
 
 pub(crate) fn draw_head(
@@ -38,21 +52,19 @@ pub(crate) fn draw_head(
     rectangle(descriptor, b"strip", 0, 0, 1188, extent.height);
     draw_name(descriptor, name);
     draw_summary(descriptor, table, place.time, extent);
-    draw_timer(descriptor, found.bounds, place.joined);
-    draw_key(descriptor);
+    draw_timers(descriptor, table, found);
+    draw_key(descriptor, table);
     if found.broken {
-        draw_fault(descriptor, log, place, found.fault);
+        draw_fault(descriptor, table, log, place, found.fault);
     }
 }
 
 // Why the entry behind a place can't be read, in the words of `heidezirkel show`.
-fn draw_fault(descriptor: i32, log: &[u8], place: Place, fault: usize) {
+fn draw_fault(descriptor: i32, table: Table, log: &[u8], place: Place, fault: usize) {
     let number = std::num::wrapping_add_usize(place.number, 1);
-    write_text(
-        descriptor,
-        b"<text class=\"t\" x=\"28\" y=\"148\">The log breaks off: ",
-    );
-    write_fault(descriptor, log, number, place.at, fault);
+    begin_text(descriptor, b"t", MARGIN, 148 + moved(table));
+    write_text(descriptor, b"The log breaks off: ");
+    write_fault(descriptor, table, log, number, place.at, fault);
     end_text(descriptor);
 }
 
@@ -126,46 +138,92 @@ fn write_drawn(descriptor: i32, extent: Extent) {
     write_text(descriptor, b" from the log's start");
 }
 
-// What the times say of the joining timer.
-fn draw_timer(descriptor: i32, bounds: Bounds, joined: bool) {
-    if !joined {
+// What the times say of the timers.
+fn draw_timers(descriptor: i32, table: Table, found: Survey) {
+    let place = found.place;
+    let joining = place.joining;
+    let invitation = place.invitation;
+    begin_text(descriptor, b"t", MARGIN, 78);
+    write_text(descriptor, b"Joining timer: ");
+    write_timer(
+        descriptor,
+        joining.seen,
+        b"no join was taken",
+        found.joining,
+    );
+    if has_invitation_timer(table) {
+        begin_text(descriptor, b"t", MARGIN, 96);
+        write_text(descriptor, b"Invitation timer: ");
+        write_timer(
+            descriptor,
+            invitation.seen,
+            b"no invitation was taken",
+            found.invitation,
+        );
+    }
+}
+
+// What they say of one; `never` are the words for one that was not started.
+fn write_timer(descriptor: i32, seen: bool, never: &[u8], bounds: Bounds) {
+    if !seen {
+        write_text(descriptor, never);
         write_between(
             descriptor,
-            b"<text class=\"t\" x=\"28\" y=\"78\">Joining timer: no join was taken, so the log says nothing of it (",
-            bounds,
+            b", so the log says nothing of it (",
+            bounds.window,
             b").</text>\n",
         );
         return;
     }
     if 0 < bounds.conflict {
-        draw_conflict(descriptor, bounds);
+        write_form(
+            descriptor,
+            b"no one timer fits these times. At entry # it has run # ms, and what came before",
+            &[bounds.conflict as u64, bounds.elapsed],
+        );
+        write_between(
+            descriptor,
+            b" leaves ",
+            bounds.window,
+            b" (drawn).</text>\n",
+        );
         return;
     }
     write_between(
         descriptor,
-        b"<text class=\"t\" x=\"28\" y=\"78\">Joining timer: by these times it is ",
-        bounds,
+        b"by these times it is ",
+        bounds.window,
         b".</text>\n",
     );
 }
 
-fn write_between(descriptor: i32, before: &[u8], bounds: Bounds, behind: &[u8]) {
+fn write_between(descriptor: i32, before: &[u8], window: Window, behind: &[u8]) {
     write_text(descriptor, before);
-    write_bounds(descriptor, bounds.least, bounds.greatest);
+    write_bounds(descriptor, window);
     write_text(descriptor, behind);
 }
 
-fn draw_conflict(descriptor: i32, bounds: Bounds) {
+// What the bars, the badges and the signs mean: always the same but for the timers, so it stands here as it is written.
+fn draw_key(descriptor: i32, table: Table) {
     write_form(
         descriptor,
-        b"<text class=\"t\" x=\"28\" y=\"78\">Joining timer: no one timer fits these times. At entry # it has run # ms, and what came before",
-        &[bounds.conflict as u64, bounds.elapsed],
+        b"<g transform=\"translate(0 #)\">\n",
+        &[moved(table)],
     );
-    write_between(descriptor, b" leaves ", bounds, b" (drawn).</text>\n");
+    draw_key_of_bars(descriptor);
+    if has_invitation_timer(table) {
+        write_text(
+            descriptor,
+            b"the invitation timer (U3) or the joining timer (U4)",
+        );
+    } else {
+        write_text(descriptor, b"the joining timer");
+    }
+    draw_key_of_signs(descriptor);
 }
 
-// What the bars, the badges and the signs mean: always the same, so it stands here as it is written.
-fn draw_key(descriptor: i32) {
+// Up to the words for the timers.
+fn draw_key_of_bars(descriptor: i32) {
     write_text(
         descriptor,
         b"<rect class=\"idle\" x=\"28\" y=\"92\" width=\"28\" height=\"12\"/>\n\
@@ -177,7 +235,14 @@ fn draw_key(descriptor: i32) {
           <rect class=\"open\" x=\"386\" y=\"92\" width=\"15\" height=\"12\"/>\n\
           <text class=\"s\" x=\"407\" y=\"102\">the log says no more</text>\n\
           <rect class=\"window\" x=\"530\" y=\"92\" width=\"28\" height=\"12\"/>\n\
-          <text class=\"s\" x=\"564\" y=\"102\">within this time the joining timer ends, or would end</text>\n\
+          <text class=\"s\" x=\"564\" y=\"102\">within this time ",
+    );
+}
+
+fn draw_key_of_signs(descriptor: i32) {
+    write_text(
+        descriptor,
+        b" ends, or would end</text>\n\
           <rect class=\"taken\" x=\"28\" y=\"112\" width=\"28\" height=\"14\" rx=\"7\"/>\n\
           <text class=\"s\" x=\"62\" y=\"123\">an entry, taken</text>\n\
           <rect class=\"told\" x=\"160\" y=\"112\" width=\"28\" height=\"14\"/>\n\
@@ -189,6 +254,7 @@ fn draw_key(descriptor: i32) {
           <path class=\"hollow\" d=\"M776 115l-5 8h10z\"/>\n\
           <text class=\"s\" x=\"788\" y=\"123\">message sent</text>\n\
           <path class=\"cross\" d=\"M878 115l8 8m0 -8l-8 8\"/>\n\
-          <text class=\"s\" x=\"892\" y=\"123\">a timer ran out</text>\n",
+          <text class=\"s\" x=\"892\" y=\"123\">a timer ran out</text>\n\
+          </g>\n",
     );
 }

@@ -1,5 +1,5 @@
-// A log as a picture: time along, the states as bars, entries and messages as marks, the window in which the joining timer ends, and a list in
-// words. It shows what the log claims and judges nothing.
+// A log as a picture: time along, the states as bars, entries and messages as marks, the windows in which the joining and the invitation timer end, and a
+// list in words. It shows what the log claims and judges nothing.
 mod band;
 mod head;
 mod lanes;
@@ -71,7 +71,7 @@ fn draw_log(table: Table, log: &[u8], at: usize, name: &[u8], path: &[u8]) -> u8
     }
     tell_drawn(path, drawn);
     if found.broken {
-        complain_of_fault(log, found);
+        complain_of_fault(table, log, found);
         return 1;
     }
     0
@@ -88,7 +88,7 @@ fn draw_picture(
 ) -> Extent {
     let place = found.place;
     let view = view_of(table, found);
-    let y = top(found.broken);
+    let y = top(table, found.broken);
     let reach = measure(log, view, y, first_place(at), place.number, found.broken);
     draw_head(descriptor, table, log, file_name(name), found, reach);
     draw_bands(descriptor, log, view, y, first_place(at), reach);
@@ -132,8 +132,8 @@ fn tell_rest(drawn: Extent) {
     tell(b"\n");
 }
 
-fn complain_of_fault(log: &[u8], found: Survey) {
+fn complain_of_fault(table: Table, log: &[u8], found: Survey) {
     let place = found.place;
     let number = std::num::wrapping_add_usize(place.number, 1);
-    write_fault(STDERR_FILENO, log, number, place.at, found.fault);
+    write_fault(STDERR_FILENO, table, log, number, place.at, found.fault);
 }

@@ -2,6 +2,7 @@
 use crate::mark::draw_number;
 use crate::place::Place;
 use crate::place::View;
+use crate::place::Watch;
 use crate::place::less;
 use crate::place::sum;
 use drawing::begin_text;
@@ -23,6 +24,7 @@ use message::Reading;
 use saying::describe::write_kind;
 use saying::write_text;
 use text::words::part;
+use timer::Window;
 
 // From a band's top to the list's head and to its first line.
 const HEAD: u64 = 248;
@@ -97,9 +99,20 @@ pub(crate) fn draw_row(
     draw_step(descriptor, log, base, before.state, claim);
     begin_text(descriptor, b"a", ASKED, base);
     write_actions(descriptor, first_actions(claim.actions));
-    if joins(before, after) {
-        write_joining(descriptor, view, after.start);
-    }
+    write_started(
+        descriptor,
+        b"; the invitation timer ends ",
+        before.invitation,
+        after.invitation,
+        view.invitation,
+    );
+    write_started(
+        descriptor,
+        b"; the joining timer ends ",
+        before.joining,
+        after.joining,
+        view.joining,
+    );
     if is_return(before.state, before.asked, after.state) {
         write_return(descriptor, after.state);
     }
@@ -119,17 +132,16 @@ fn first_actions(actions: u8) -> u8 {
     actions % 32
 }
 
-// Whether the joining timer was started here.
-fn joins(before: Place, after: Place) -> bool {
-    !before.running & after.running
-}
-
-fn write_joining(descriptor: i32, view: View, start: u64) {
-    write_text(descriptor, b"; the joining timer ends ");
-    write_clock(descriptor, sum(start, view.least));
-    if view.least < view.greatest {
+// Within which time a timer ends that was started here.
+fn write_started(descriptor: i32, words: &[u8], before: Watch, after: Watch, window: Window) {
+    if before.running | !after.running {
+        return;
+    }
+    write_text(descriptor, words);
+    write_clock(descriptor, sum(after.start, window.least));
+    if window.least < window.greatest {
         write_text(descriptor, b" to ");
-        write_clock(descriptor, sum(start, view.greatest));
+        write_clock(descriptor, sum(after.start, window.greatest));
     }
 }
 

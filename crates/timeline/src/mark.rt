@@ -85,7 +85,7 @@ fn draw_signs(descriptor: i32, y: u64, x: u64, event: u8, sent: bool) {
     if sent {
         draw_sent(descriptor, x, y);
     }
-    if (14 <= event) & (event <= 17) {
+    if 0 < timer::expired_timer(event as u32) {
         draw_expiry(descriptor, less(x, 4), y);
     }
 }

@@ -3,7 +3,9 @@ use log::Entry;
 use log::Found;
 use log::read_entry;
 use log_words::entry::asked_from;
+use log_words::has_invitation_timer;
 use timer::Timers;
+use timer::Window;
 use version::Table;
 
 // The picture is 297 mm wide, 4 units a millimetre. Time runs from LEFT to RIGHT, and its marks stay LEAD away from both.
@@ -25,14 +27,34 @@ const START: u64 = 5000;
 
 pub(crate) const STRIP: u64 = 56;
 
-// How the log is read, by the table of its version, and the picture drawn: units a second, milliseconds from one mark of the time axis to the next, and the
-// joining timer's bounds.
+// The states that the followed timers end.
+pub(crate) const INVITED: u8 = 4;
+
+pub(crate) const JOINING: u8 = 5;
+
+// How the log is read, by the table of its version, and the picture drawn: units a second, milliseconds from one mark of the time axis to the next, and what
+// the times leave of the joining timer and of the invitation timer.
 pub(crate) struct View {
     pub table: Table,
     pub scale: u64,
     pub step: u64,
-    pub least: u64,
-    pub greatest: u64,
+    pub joining: Window,
+    pub invitation: Window,
+}
+
+// A timer that the picture follows: whether it was ever started, when it was last, and whether it runs.
+pub(crate) struct Watch {
+    pub seen: bool,
+    pub start: u64,
+    pub running: bool,
+}
+
+impl Watch {
+    const NEVER: Watch = Watch {
+        seen: false,
+        start: 0,
+        running: false,
+    };
 }
 
 pub(crate) struct Place {
@@ -43,10 +65,9 @@ pub(crate) struct Place {
     pub state: u8,
     // The state that a termination was asked from, 0 where none is.
     pub asked: u8,
-    // Whether a join was taken, the time of the last one, and whether its timer runs.
-    pub joined: bool,
-    pub start: u64,
-    pub running: bool,
+    // The joining timer, which a join starts, and the invitation timer, which a notification does.
+    pub joining: Watch,
+    pub invitation: Watch,
     // In thousandths of a unit, so that no rounding adds up; then the middle of the last entry's number, in units.
     pub x: u64,
     pub label: u64,
@@ -104,9 +125,8 @@ pub(crate) fn first_place(at: usize) -> Place {
         time: 0,
         state: 0,
         asked: 0,
-        joined: false,
-        start: 0,
-        running: false,
+        joining: Watch::NEVER,
+        invitation: Watch::NEVER,
         x: (LEFT + LEAD) * 1000,
         label: 0,
         lines: 0,
@@ -115,19 +135,11 @@ pub(crate) fn first_place(at: usize) -> Place {
 
 // The same place at the start of a new band.
 pub(crate) fn in_new_band(place: Place) -> Place {
-    Place {
-        at: place.at,
-        number: place.number,
-        time: place.time,
-        state: place.state,
-        asked: place.asked,
-        joined: place.joined,
-        start: place.start,
-        running: place.running,
-        x: (LEFT + LEAD) * 1000,
-        label: 0,
-        lines: 0,
-    }
+    let mut first = place;
+    first.x = (LEFT + LEAD) * 1000;
+    first.label = 0;
+    first.lines = 0;
+    first
 }
 
 pub(crate) fn is_cut(delta: u64) -> bool {
@@ -144,13 +156,27 @@ pub(crate) fn shown(place: Place, delta: u64) -> u64 {
 
 // How long a joining timer may last from here on.
 pub(crate) fn joining_left(place: Place) -> u64 {
-    if !place.joined {
+    let joining = place.joining;
+    if !joining.seen {
         return 0;
     }
     less(
-        sum(place.start, Timers::JOINING_GREATEST as u64),
+        sum(joining.start, Timers::JOINING_GREATEST as u64),
         place.time,
     )
+}
+
+// How much is drawn of an invitation timer that runs: the time to its end, as if an entry stood there.
+pub(crate) fn invitation_left(place: Place, window: Window) -> u64 {
+    let invitation = place.invitation;
+    if !invitation.running {
+        return 0;
+    }
+    let left = less(sum(invitation.start, window.greatest), place.time);
+    if is_cut(left) {
+        return START;
+    }
+    left
 }
 
 fn strip_of(delta: u64) -> u64 {
@@ -160,9 +186,10 @@ fn strip_of(delta: u64) -> u64 {
     0
 }
 
-// Whether an entry claims a join that was taken.
-fn is_joining(before: u8, event: u8, answer: u8, after: u8) -> bool {
-    (event == 3) & (answer == 0) & (after == 5) & (before != 5)
+// Whether an entry claims that an event was taken and led to a state from another.
+fn is_entered(state: u8, event: u8, before: u8, entry: Entry) -> bool {
+    let claim = entry.claim;
+    (entry.event == event) & (claim.answer == 0) & (claim.state == state) & (before != state)
 }
 
 // An entry that claims the long sixth action beside others has two lines.
@@ -173,11 +200,20 @@ pub(crate) fn lines_of(actions: u8) -> u64 {
     1
 }
 
-fn start_of(joins: bool, time: u64, before: u64) -> u64 {
-    if joins {
-        return time;
+// A timer behind an entry at a time; `starts` where the entry starts it, `stays` where it leads to the state that the timer ends.
+fn watched(watch: Watch, starts: bool, stays: bool, time: u64) -> Watch {
+    if starts {
+        return Watch {
+            seen: true,
+            start: time,
+            running: true,
+        };
     }
-    before
+    Watch {
+        seen: watch.seen,
+        start: watch.start,
+        running: watch.running & stays,
+    }
 }
 
 // The place behind an entry, which ends at byte `at`.
@@ -187,16 +223,19 @@ pub(crate) fn onward(view: View, place: Place, entry: Entry, at: usize) -> Place
     let time = sum(place.time, delta);
     let drawn = along(view.scale, shown(place, delta));
     let x = sum(place.x, sum(drawn, strip_of(delta)));
-    let joins = is_joining(place.state, entry.event, claim.answer, claim.state);
+    let joins = is_entered(JOINING, 3, place.state, entry);
+    let joining = watched(place.joining, joins, claim.state == JOINING, time);
+    let table = view.table;
+    let invites = is_entered(INVITED, 10, place.state, entry) & has_invitation_timer(table);
+    let invitation = watched(place.invitation, invites, claim.state == INVITED, time);
     Place {
         at,
         number: std::num::wrapping_add_usize(place.number, 1),
         time,
         state: claim.state,
         asked: asked_from(place.state, place.asked, claim.state),
-        joined: joins | place.joined,
-        start: start_of(joins, time, place.start),
-        running: joins | (place.running & (claim.state == 5)),
+        joining,
+        invitation,
         x,
         label: greater(x / 1000, sum(place.label, APART)),
         lines: sum(place.lines, lines_of(claim.actions)),
@@ -207,19 +246,9 @@ pub(crate) fn onward(view: View, place: Place, entry: Entry, at: usize) -> Place
 pub(crate) fn next_place(log: &[u8], view: View, place: Place) -> Place {
     let table = view.table;
     let Found::Read(entry, at) = read_entry(table, log, place.at) else {
-        return Place {
-            at: place.at,
-            number: std::num::wrapping_add_usize(place.number, 1),
-            time: place.time,
-            state: place.state,
-            asked: place.asked,
-            joined: place.joined,
-            start: place.start,
-            running: place.running,
-            x: place.x,
-            label: place.label,
-            lines: place.lines,
-        };
+        let mut next = place;
+        next.number = std::num::wrapping_add_usize(place.number, 1);
+        return next;
     };
     onward(view, place, entry, at)
 }

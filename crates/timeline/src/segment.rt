@@ -1,10 +1,13 @@
-// The time from one entry to the next: the bar of the state, the marks of the time axis, the window in which the joining timer ends, and the
-// strip that stands for a long time without an entry.
+// The time from one entry to the next: the bar of the state, the marks of the time axis, the windows in which the joining and the invitation timer end, and
+// the strip that stands for a long time without an entry.
 use crate::lanes::lane;
+use crate::place::INVITED;
+use crate::place::JOINING;
 use crate::place::Place;
 use crate::place::RIGHT;
 use crate::place::STRIP;
 use crate::place::View;
+use crate::place::Watch;
 use crate::place::along;
 use crate::place::greater;
 use crate::place::is_cut;
@@ -26,6 +29,7 @@ use drawing::write_form;
 use log_words::entry::write_clock;
 use log_words::entry::write_seconds;
 use saying::write_text;
+use timer::Window;
 
 // ---- the bar
 
@@ -99,63 +103,102 @@ fn draw_tick(descriptor: i32, view: View, y: u64, place: Place, tick: u64) {
     end_text(descriptor);
 }
 
-// ---- the joining timer
+// ---- the timers
 
-// The part of the window that lies within the drawn time. `room` is where the lane is free to.
-fn draw_window(descriptor: i32, view: View, y: u64, place: Place, time: u64, room: u64) {
-    let from = sum(place.start, view.least);
-    let to = sum(place.start, view.greatest);
-    let end = sum(place.time, time);
-    if !is_within(place, from, to, end) {
-        return;
-    }
-    let behind = draw_hatched(
+// The parts of both windows that lie within the drawn time. `room` is where the lanes are free to.
+fn draw_windows(descriptor: i32, view: View, y: u64, place: Place, time: u64, room: u64) {
+    let invited = lane(y, INVITED);
+    draw_window(
         descriptor,
         view.scale,
-        y,
+        invited,
         place,
-        greater(from, place.time),
-        smaller(to, end),
+        place.invitation,
+        view.invitation,
+        time,
+        room,
     );
-    if to <= end {
-        draw_bounds(descriptor, view, y, sum(behind, 4), room);
-    }
+    let joining = lane(y, JOINING);
+    draw_window(
+        descriptor,
+        view.scale,
+        joining,
+        place,
+        place.joining,
+        view.joining,
+        time,
+        room,
+    );
 }
 
-// The window from a time to a time; answers where it ends along the axis.
-fn draw_hatched(descriptor: i32, scale: u64, y: u64, place: Place, first: u64, last: u64) -> u64 {
+// That of one timer, by what is left of it; `top` is the top of its lane.
+fn draw_window(
+    descriptor: i32,
+    scale: u64,
+    top: u64,
+    place: Place,
+    watch: Watch,
+    window: Window,
+    time: u64,
+    room: u64,
+) {
+    let from = sum(watch.start, window.least);
+    let to = sum(watch.start, window.greatest);
+    let end = sum(place.time, time);
+    if !is_within(watch.seen, place.time, from, to, end) {
+        return;
+    }
+    let first = greater(from, place.time);
     let x = sum(place.x, along(scale, less(first, place.time))) / 1000;
+    let behind = draw_hatched(descriptor, scale, top, x, first, smaller(to, end));
+    draw_bounds(descriptor, top, sum(behind, 4), room, window);
+}
+
+// The window from a time, which stands at `x`, to a time; answers where it ends along the axis.
+fn draw_hatched(descriptor: i32, scale: u64, top: u64, x: u64, first: u64, last: u64) -> u64 {
     let width = greater(3, along(scale, less(last, first)) / 1000);
     write_form(
         descriptor,
         b"<rect class=\"window\" x=\"#\" y=\"#\" width=\"#\" height=\"14\" data-from=\"#\" data-to=\"#\"/>\n",
-        &[x, sum(lane(y, 5), 2), width, first, last],
+        &[x, sum(top, 2), width, first, last],
     );
     sum(x, width)
 }
 
 // A window of one instant belongs to the time that ends there.
-fn is_within(place: Place, from: u64, to: u64, end: u64) -> bool {
+fn is_within(seen: bool, time: u64, from: u64, to: u64, end: u64) -> bool {
     let instant = (from == to) & (from <= end);
-    place.joined & (place.time < to) & ((from < end) | instant)
+    seen & (time < to) & ((from < end) | instant)
 }
 
-// `least to greatest ms`, where there is room for it.
-fn draw_bounds(descriptor: i32, view: View, y: u64, x: u64, room: u64) {
+// `least to greatest ms` behind the window, where there is room for it.
+fn draw_bounds(descriptor: i32, top: u64, x: u64, room: u64, window: Window) {
     if room < sum(x, 108) {
         return;
     }
-    begin_text(descriptor, b"s", x, sum(lane(y, 5), 13));
-    write_bounds(descriptor, view.least, view.greatest);
+    begin_text(descriptor, b"s", x, sum(top, 13));
+    write_bounds(descriptor, window);
     end_text(descriptor);
 }
 
-pub(crate) fn write_bounds(descriptor: i32, least: u64, greatest: u64) {
-    if least < greatest {
-        write_form(descriptor, b"# to # ms", &[least, greatest]);
+pub(crate) fn write_bounds(descriptor: i32, window: Window) {
+    if window.least < window.greatest {
+        write_form(descriptor, b"# to # ms", &[window.least, window.greatest]);
         return;
     }
-    write_form(descriptor, b"# ms", &[least]);
+    write_form(descriptor, b"# ms", &[window.least]);
+}
+
+// An invitation timer that ends exactly where a strip does: the time before it is not drawn, so it is drawn at the strip's end.
+fn draw_end(descriptor: i32, view: View, y: u64, before: Place, after: Place) {
+    let watch = before.invitation;
+    let window = view.invitation;
+    let ends = sum(watch.start, window.least) == after.time;
+    if watch.running & ends & (window.least == window.greatest) {
+        let top = lane(y, INVITED);
+        let x = after.x / 1000;
+        draw_hatched(descriptor, view.scale, top, x, after.time, after.time);
+    }
 }
 
 // ---- a long time without an entry
@@ -201,11 +244,12 @@ pub(crate) fn draw_segment(
     draw_ticks(descriptor, view, y, before, time);
     draw_bar(descriptor, y, before, after);
     if !is_cut(delta) {
-        draw_window(descriptor, view, y, before, time, end);
+        draw_windows(descriptor, view, y, before, time, end);
         return;
     }
-    draw_window(descriptor, view, y, before, time, less(end, STRIP));
+    draw_windows(descriptor, view, y, before, time, less(end, STRIP));
     draw_strip(descriptor, y, end, delta);
+    draw_end(descriptor, view, y, before, after);
 }
 
 // How many milliseconds so many thousandths of a unit are.
@@ -221,9 +265,9 @@ fn across(scale: u64, width: u64) -> u64 {
 // Behind the last entry the state goes on, nobody knows how long.
 pub(crate) fn draw_tail(descriptor: i32, view: View, y: u64, place: Place) {
     let room = across(view.scale, less(RIGHT * 1000, place.x));
-    let time = smaller(tail(place), room);
+    let time = smaller(tail(place, view.invitation), room);
     draw_ticks(descriptor, view, y, place, time);
-    draw_window(descriptor, view, y, place, time, RIGHT);
+    draw_windows(descriptor, view, y, place, time, RIGHT);
     begin_rectangle(
         descriptor,
         b"open",

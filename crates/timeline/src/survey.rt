@@ -1,13 +1,17 @@
-// The first pass over a log: how many entries can be read, which joining timers their times leave, and how wide the picture would be.
+// The first pass over a log: how many entries can be read, which joining and which invitation timers their times leave, and how wide the picture would be.
+use crate::place::INVITED;
+use crate::place::JOINING;
 use crate::place::LEAD;
 use crate::place::LEFT;
 use crate::place::Place;
 use crate::place::RIGHT;
 use crate::place::STRIP;
 use crate::place::View;
+use crate::place::Watch;
 use crate::place::along;
 use crate::place::first_place;
 use crate::place::greater;
+use crate::place::invitation_left;
 use crate::place::is_cut;
 use crate::place::joining_left;
 use crate::place::onward;
@@ -18,21 +22,42 @@ use log::Entry;
 use log::Found;
 use log::read_entry;
 use timer::Timers;
+use timer::Window;
 use version::Table;
 
-// The timers that the times leave. `conflict` is the first entry, if any, at which none is left: the timer has run for `elapsed` there,
-// and the bounds are those of the entries before.
+// What the times leave of a timer. `conflict` is the first entry, if any, at which nothing is left: the timer has run for `elapsed` there, and the window is
+// that of the entries before.
 pub(crate) struct Bounds {
-    pub least: u64,
-    pub greatest: u64,
+    pub window: Window,
     pub conflict: usize,
     pub elapsed: u64,
+}
+
+impl Bounds {
+    const JOINING: Bounds = Bounds {
+        window: Window {
+            least: Timers::JOINING_LEAST as u64,
+            greatest: Timers::JOINING_GREATEST as u64,
+        },
+        conflict: 0,
+        elapsed: 0,
+    };
+
+    const INVITATION: Bounds = Bounds {
+        window: Window {
+            least: Timers::INVITATION_LEAST as u64,
+            greatest: Timers::INVITATION_GREATEST as u64,
+        },
+        conflict: 0,
+        elapsed: 0,
+    };
 }
 
 pub(crate) struct Survey {
     // Behind the last entry that can be read.
     pub place: Place,
-    pub bounds: Bounds,
+    pub joining: Bounds,
+    pub invitation: Bounds,
     // The time that would be drawn in one band, in milliseconds, and the strips for what is not.
     pub drawn: u64,
     pub strips: u64,
@@ -45,12 +70,8 @@ pub(crate) struct Survey {
 pub(crate) fn survey_log(table: Table, log: &[u8], at: usize) -> Survey {
     let mut found = Survey {
         place: first_place(at),
-        bounds: Bounds {
-            least: Timers::JOINING_LEAST as u64,
-            greatest: Timers::JOINING_GREATEST as u64,
-            conflict: 0,
-            elapsed: 0,
-        },
+        joining: Bounds::JOINING,
+        invitation: Bounds::INVITATION,
         drawn: 0,
         strips: 0,
         broken: false,
@@ -74,35 +95,57 @@ fn is_over(log: &[u8], found: Survey) -> bool {
 
 fn survey_next(table: Table, log: &[u8], found: Survey) -> Survey {
     let place = found.place;
-    let bounds = found.bounds;
     match read_entry(table, log, place.at) {
-        Found::Unreadable(fault) => Survey {
-            place,
-            bounds,
-            drawn: found.drawn,
-            strips: found.strips,
-            broken: true,
-            fault,
-        },
-        Found::Read(entry, at) => {
-            let delta = entry.delta as u64;
-            let view = View {
-                table,
-                scale: 8,
-                step: 0,
-                least: 0,
-                greatest: 0,
-            };
-            let next = onward(view, place, entry, at);
-            Survey {
-                place: next,
-                bounds: narrowed(bounds, place, entry, next),
-                drawn: sum(found.drawn, shown(place, delta)),
-                strips: sum(found.strips, strips_of(delta)),
-                broken: false,
-                fault: 0,
-            }
+        Found::Unreadable(fault) => {
+            let mut broken = found;
+            broken.broken = true;
+            broken.fault = fault;
+            broken
         }
+        Found::Read(entry, at) => survey_entry(table, found, entry, at),
+    }
+}
+
+// Behind an entry, which ends at byte `at`.
+fn survey_entry(table: Table, found: Survey, entry: Entry, at: usize) -> Survey {
+    let place = found.place;
+    let delta = entry.delta as u64;
+    let next = onward(unscaled(table), place, entry, at);
+    let joining = narrowed(
+        found.joining,
+        place.joining,
+        expires(entry, 16, JOINING),
+        next,
+    );
+    let invitation = narrowed(
+        found.invitation,
+        place.invitation,
+        expires(entry, 19, INVITED),
+        next,
+    );
+    Survey {
+        place: next,
+        joining,
+        invitation,
+        drawn: sum(found.drawn, shown(place, delta)),
+        strips: sum(found.strips, strips_of(delta)),
+        broken: false,
+        fault: 0,
+    }
+}
+
+// How the log is read before it is known how the picture is drawn.
+fn unscaled(table: Table) -> View {
+    let nothing = Window {
+        least: 0,
+        greatest: 0,
+    };
+    View {
+        table,
+        scale: 8,
+        step: 0,
+        joining: nothing,
+        invitation: nothing,
     }
 }
 
@@ -113,29 +156,33 @@ fn strips_of(delta: u64) -> u64 {
     0
 }
 
-// What an entry leaves of the timers: its expiry is exactly the timer's length after the join, any other entry at most that.
-fn narrowed(bounds: Bounds, before: Place, entry: Entry, after: Place) -> Bounds {
-    if !before.running {
+// Whether an entry claims that the timer of a state ended it by its expiry.
+fn expires(entry: Entry, event: u8, state: u8) -> bool {
+    let claim = entry.claim;
+    (entry.event == event) & (claim.state != state)
+}
+
+// What an entry leaves of a timer: its expiry is exactly the timer's length after its start, any other entry at most that.
+fn narrowed(bounds: Bounds, watch: Watch, expired: bool, after: Place) -> Bounds {
+    if !watch.running {
         return bounds;
     }
     if 0 < bounds.conflict {
         return bounds;
     }
-    let elapsed = std::num::wrapping_sub_u64(after.time, before.start);
-    let least = greater(bounds.least, elapsed);
-    let expired = (entry.event == 16) & (after.state != 5);
-    let greatest = greatest_of(expired, elapsed, bounds.greatest);
+    let window = bounds.window;
+    let elapsed = std::num::wrapping_sub_u64(after.time, watch.start);
+    let least = greater(window.least, elapsed);
+    let greatest = greatest_of(expired, elapsed, window.greatest);
     if greatest < least {
         return Bounds {
-            least: bounds.least,
-            greatest: bounds.greatest,
+            window,
             conflict: after.number,
             elapsed,
         };
     }
     Bounds {
-        least,
-        greatest,
+        window: Window { least, greatest },
         conflict: 0,
         elapsed: 0,
     }
@@ -150,9 +197,12 @@ fn greatest_of(expired: bool, elapsed: u64, before: u64) -> u64 {
 
 // ---- the scale
 
-// The time that is drawn behind the last entry: a second, or to the end of a joining timer that may still run.
-pub(crate) fn tail(place: Place) -> u64 {
-    greater(1000, joining_left(place))
+// The time that is drawn behind the last entry: a second, or to the end of a timer that may still run.
+pub(crate) fn tail(place: Place, invitation: Window) -> u64 {
+    greater(
+        1000,
+        greater(joining_left(place), invitation_left(place, invitation)),
+    )
 }
 
 // Units that the strips take, and twice the lead.
@@ -165,21 +215,25 @@ fn kept(strips: u64) -> u64 {
 
 fn fits(found: Survey, scale: u64) -> bool {
     let place = found.place;
-    let time = sum(found.drawn, tail(place));
+    let invitation = found.invitation;
+    let time = sum(found.drawn, tail(place, invitation.window));
     let units = sum(along(scale, time) / 1000, kept(found.strips));
     (time <= 1000000) & (units <= RIGHT - LEFT)
 }
 
 // A short log has one band as wide as it can be; a longer one has as many bands of 8 units a second as it takes.
 pub(crate) fn view_of(table: Table, found: Survey) -> View {
-    let bounds = found.bounds;
+    let joining = found.joining;
+    let joining_window = joining.window;
+    let invitation = found.invitation;
+    let invitation_window = invitation.window;
     let scale = scale_of(found);
     View {
         table,
         scale,
         step: step_of(scale),
-        least: bounds.least,
-        greatest: bounds.greatest,
+        joining: joining_window,
+        invitation: invitation_window,
     }
 }
 

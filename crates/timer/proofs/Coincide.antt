@@ -16,8 +16,8 @@ running-timer-coincides t a b = coincide (runningAmong t) a b
 pub expired-timer-coincides : (event a b : ℕ) → a ≡ expiryOf event → b ≡ expiryOf event → a ≡ b
 expired-timer-coincides event a b = coincide (expiryOf event) a b
 
-pub timer-length-coincides : (joining timer a b : ℕ) → a ≡ lengthOf joining timer → b ≡ lengthOf joining timer → a ≡ b
-timer-length-coincides joining timer a b = coincide (lengthOf joining timer) a b
+pub timer-length-coincides : (joining invitation timer a b : ℕ) → a ≡ lengthOf joining invitation timer → b ≡ lengthOf joining invitation timer → a ≡ b
+timer-length-coincides joining invitation timer a b = coincide (lengthOf joining invitation timer) a b
 
 pub with-timer-coincides : (k : Timer) (runs : Bool) (t a b : Timers) → a ≡ withTimer k runs t → b ≡ withTimer k runs t → a ≡ b
 with-timer-coincides k runs t a b = coincide (withTimer k runs t) a b

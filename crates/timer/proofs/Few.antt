@@ -19,14 +19,16 @@ abbrev sameTimers : Timers → Timers → Bool
 sameTimers t u = ofEach (λ k. sameBool (isOn k t) (isOn k u))
 
 same-timers : (t u : Timers) → sameTimers t u ≡ true → t ≡ u
-same-timers t u e =
-    let a : t .mmest ≡ u .mmest = same-bool _ _ (and-left (sameBool (t .mmest) (u .mmest)) _ e) in
-    let r = and-right (sameBool (t .mmest) (u .mmest)) _ e in
+same-timers t u same =
+    let a : t .mmest ≡ u .mmest = same-bool _ _ (and-left (sameBool (t .mmest) (u .mmest)) _ same) in
+    let r = and-right (sameBool (t .mmest) (u .mmest)) _ same in
     let b : t .term ≡ u .term = same-bool _ _ (and-left (sameBool (t .term) (u .term)) _ r) in
     let q = and-right (sameBool (t .term) (u .term)) _ r in
     let c : t .connreq ≡ u .connreq = same-bool _ _ (and-left (sameBool (t .connreq) (u .connreq)) _ q) in
-    let d : t .nochannel ≡ u .nochannel = same-bool _ _ (and-right (sameBool (t .connreq) (u .connreq)) _ q) in
-    rw (a, b, c, d)
+    let p = and-right (sameBool (t .connreq) (u .connreq)) _ q in
+    let d : t .nochannel ≡ u .nochannel = same-bool _ _ (and-left (sameBool (t .nochannel) (u .nochannel)) _ p) in
+    let e : t .pres ≡ u .pres = same-bool _ _ (and-right (sameBool (t .nochannel) (u .nochannel)) _ p) in
+    rw (a, b, c, d, e)
 
 abbrev lone : Timers → Bool
 lone t = not (leb (howMany t) 1) || sameTimers t (alone (runningAmong t))

@@ -29,16 +29,17 @@ pub at-bool : (P : Bool → Bool) → either P ≡ true → (b : Bool) → P b �
 at-bool P e true = and-left (P true) _ e
 at-bool P e false = and-right (P true) _ e
 
-abbrev timers : Bool → Bool → Bool → Bool → Timers
-timers a b c d = record { mmest = a; term = b; connreq = c; nochannel = d }
+abbrev timers : Bool → Bool → Bool → Bool → Bool → Timers
+timers a b c d e = record { mmest = a; term = b; connreq = c; nochannel = d; pres = e }
 
 -- The test holds of all timers.
 abbrev pub ofTimers : (Timers → Bool) → Bool
-ofTimers P = either (λ a. either (λ b. either (λ c. either (λ d. P (timers a b c d)))))
+ofTimers P = either (λ a. either (λ b. either (λ c. either (λ d. either (λ e. P (timers a b c d e))))))
 
 pub at-timers : (P : Timers → Bool) → ofTimers P ≡ true → (t : Timers) → P t ≡ true
-at-timers P e t =
-    at-bool (λ d. P (timers (t .mmest) (t .term) (t .connreq) d))
-    (at-bool (λ c. either (λ d. P (timers (t .mmest) (t .term) c d)))
-    (at-bool (λ b. either (λ c. either (λ d. P (timers (t .mmest) b c d))))
-    (at-bool (λ a. either (λ b. either (λ c. either (λ d. P (timers a b c d))))) e (t .mmest)) (t .term)) (t .connreq)) (t .nochannel)
+at-timers P all t =
+    at-bool (λ e. P (timers (t .mmest) (t .term) (t .connreq) (t .nochannel) e))
+    (at-bool (λ d. either (λ e. P (timers (t .mmest) (t .term) (t .connreq) d e)))
+    (at-bool (λ c. either (λ d. either (λ e. P (timers (t .mmest) (t .term) c d e))))
+    (at-bool (λ b. either (λ c. either (λ d. either (λ e. P (timers (t .mmest) b c d e)))))
+    (at-bool (λ a. either (λ b. either (λ c. either (λ d. either (λ e. P (timers a b c d e)))))) all (t .mmest)) (t .term)) (t .connreq)) (t .nochannel)) (t .pres)

@@ -9,17 +9,25 @@ pub enum Timer {
     Term,
     ConnReq,
     NoChannel,
+    Pres,
 }
 
-// Which timers run: T_MM-est, T_term, T_conn req, T_no channel.
+// Which timers run: T_MM-est, T_term, T_conn req, T_no channel, T_pres.
 pub struct Timers {
     pub mmest: bool,
     pub term: bool,
     pub connreq: bool,
     pub nochannel: bool,
+    pub pres: bool,
 }
 
-// The timers' lengths in milliseconds; T_conn req, the joining timer, is a setting from its least to its greatest.
+// Lengths that a timer may have, in milliseconds: from the least to the greatest, both among them.
+pub struct Window {
+    pub least: u64,
+    pub greatest: u64,
+}
+
+// The timers' lengths in milliseconds; T_conn req, the joining timer, and T_pres, the invitation timer, are settings, each from its least to its greatest.
 impl Timers {
     pub const MM_EST: u32 = 5000;
 
@@ -30,6 +38,10 @@ impl Timers {
     pub const JOINING_GREATEST: u32 = 30000;
 
     pub const NO_CHANNEL: u32 = 3000;
+
+    pub const INVITATION_LEAST: u32 = 1000;
+
+    pub const INVITATION_GREATEST: u32 = 600000;
 }
 
 // The number of a timer, 0 for none.
@@ -42,6 +54,7 @@ pub fn timer_number(timer: Timer) -> u8
         Timer::Term => 2,
         Timer::ConnReq => 3,
         Timer::NoChannel => 4,
+        Timer::Pres => 5,
     }
 }
 
@@ -61,6 +74,9 @@ pub fn running_timer(timers: Timers) -> u8
     if timers.nochannel {
         return timer_number(Timer::NoChannel);
     }
+    if timers.pres {
+        return timer_number(Timer::Pres);
+    }
     0
 }
 
@@ -73,19 +89,21 @@ pub fn expired_timer(event: u32) -> u8
         15 => timer_number(Timer::Term),
         16 => timer_number(Timer::ConnReq),
         17 => timer_number(Timer::NoChannel),
+        19 => timer_number(Timer::Pres),
         _ => 0,
     }
 }
 
-// The length of the timer of a number, in milliseconds, where the joining timer is set to `joining`; 0 for no timer.
-pub fn timer_length(joining: u32, timer: u8) -> u32
-    ensures { λ r. ⌜ r ≡ lengthOf joining timer ⌝ }
+// The length of the timer of a number, in milliseconds, where the joining timer is set to `joining` and the invitation timer to `invitation`; 0 for no timer.
+pub fn timer_length(joining: u32, invitation: u32, timer: u8) -> u32
+    ensures { λ r. ⌜ r ≡ lengthOf joining invitation timer ⌝ }
 {
     match timer {
         1 => Timers::MM_EST,
         2 => Timers::TERM,
         3 => joining,
         4 => Timers::NO_CHANNEL,
+        5 => invitation,
         _ => 0,
     }
 }
@@ -101,24 +119,35 @@ pub fn with_timer(timer: Timer, runs: bool, timers: Timers) -> Timers
             term: timers.term,
             connreq: timers.connreq,
             nochannel: timers.nochannel,
+            pres: timers.pres,
         },
         Timer::Term => Timers {
             mmest: timers.mmest,
             term: runs,
             connreq: timers.connreq,
             nochannel: timers.nochannel,
+            pres: timers.pres,
         },
         Timer::ConnReq => Timers {
             mmest: timers.mmest,
             term: timers.term,
             connreq: runs,
             nochannel: timers.nochannel,
+            pres: timers.pres,
         },
         Timer::NoChannel => Timers {
             mmest: timers.mmest,
             term: timers.term,
             connreq: timers.connreq,
             nochannel: runs,
+            pres: timers.pres,
+        },
+        Timer::Pres => Timers {
+            mmest: timers.mmest,
+            term: timers.term,
+            connreq: timers.connreq,
+            nochannel: timers.nochannel,
+            pres: runs,
         },
     }
 }

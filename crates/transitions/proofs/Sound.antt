@@ -10,7 +10,7 @@ use Rattle.timer.specs.Timers.{isOn, timerNumber, runningAmong, withTimer}
 use Rattle.context.specs.States.{same}
 use Rattle.fitness.specs.Fitness.{Fitness, timersFitBy, rememberedFitBy}
 use Rattle.version.specs.declared.Table.{Table}
-use Rattle.version.specs.declared.Table.the-variants.{First, Second}
+use Rattle.version.specs.declared.Table.the-variants.{First, Second, Third}
 use Rattle.context.specs.Remembered.{remembering, returning}
 use Rattle.fitness.specs.Tables.{fitnessOf}
 use Rattle.fitness.proofs.Sound.{Sound as SoundFitness}
@@ -119,6 +119,16 @@ rows-sound First = record {
 }
 rows-sound Second = record {
   fitness-sound = of-fitness Second;
+  effects-single = refl;
+  types-known = refl;
+  fit-kept = refl;
+  set-fresh = refl;
+  set-rightly = refl;
+  actions-few = refl;
+  sent-plain = refl;
+}
+rows-sound Third = record {
+  fitness-sound = of-fitness Third;
   effects-single = refl;
   types-known = refl;
   fit-kept = refl;

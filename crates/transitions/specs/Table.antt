@@ -19,14 +19,14 @@ use Rattle.codes.specs.MessageTypes.{
 }
 use Rattle.timer.specs.declared.Timers.{Timers}
 use Rattle.version.specs.declared.Table.{Table}
-use Rattle.version.specs.declared.Table.the-variants.{First, Second}
+use Rattle.version.specs.declared.Table.the-variants.{First, Second, Third}
 use Rattle.context.specs.declared.Context.{Context}
 use Rattle.context.specs.declared.Remembered.{Remembered}
 use Rattle.context.specs.declared.Remembered.the-variants as Remembered
 use Rattle.context.specs.Remembered.{remembering, returning}
 use Rattle.context.specs.States.{same}
 use Rattle.timer.specs.declared.Timer.{Timer}
-use Rattle.timer.specs.declared.Timer.the-variants.{NoTimer, MmEst, Term, ConnReq, NoChannel}
+use Rattle.timer.specs.declared.Timer.the-variants.{NoTimer, MmEst, Term, ConnReq, NoChannel, Pres}
 use Rattle.timer.specs.Timers.{timerNumber, isOn, withTimer}
 use Rattle.transitions.specs.declared.Send.{Send}
 use Rattle.transitions.specs.declared.Send.the-variants.{Nothing, ImmediateSetup, Setup, TerminationRequest}
@@ -102,14 +102,24 @@ U1-U2-ORIG = (U1, ORIG) ∷ (U2, ORIG) ∷ []
 abbrev pub asking : Table → Memory
 asking First = Keep
 asking Second = Remember
+asking Third = Remember
 
 abbrev pub rejected : Table → Next
 rejected First = to U5
 rejected Second = back
+rejected Third = back
 
 abbrev pub rejecting : Table → Memory
 rejecting First = Keep
 rejecting Second = Forget
+rejecting Third = Forget
+
+-- In the first two an invitation waits in U3 with no timer. In the third T_pres runs there: "The standard allows a timer there: at expiry the context is cleared and
+-- U0 entered, with action 0." So event 10 sets it, 3 stops it, and 19, its expiry, has a row where it runs; elsewhere, and in the first two, 19 has none.
+abbrev pub inviting : Table → Timer
+inviting First = NoTimer
+inviting Second = NoTimer
+inviting Third = Pres
 
 -- ---- document 01's rows, with what differs marked by the table
 
@@ -124,8 +134,9 @@ stepTable table =
     row U0p-U1-with-T-MM-est (event 14) (to U0) (act 8) [] ∷
     row (each (U0p ∷ U1 ∷ [])) (event 8) (to U0) (act 8) [] ∷
     row (each (U0p ∷ U1 ∷ [])) (message CONNECT) (to U2) implicit (store-its-reference ∷ stop MmEst ∷ []) ∷
-    row (each (U0 ∷ [])) (event 10) (to U3) (act 1) (store-value-and-reference ∷ []) ∷
-    row (each (U3 ∷ [])) (event 3) (to U4) (act 4) (set ConnReq ∷ []) ∷
+    row (each (U0 ∷ [])) (event 10) (to U3) (act 1) (set (inviting table) ∷ store-value-and-reference ∷ []) ∷
+    row (each (U3 ∷ [])) (event 3) (to U4) (act 4) (stop (inviting table) ∷ set ConnReq ∷ []) ∷
+    row ((U3, running (inviting table)) ∷ []) (event 19) (to U0) (act 0) [] ∷
     row (each (U4 ∷ [])) (event 11) (to U6) (act 1) (stop ConnReq ∷ []) ∷
     row (each (U4 ∷ [])) (event 16) (to U0) (act (1 + 8)) [] ∷
     row (each (U6 ∷ [])) (event 12) (to U6) (act 1) (set-unless-running NoChannel ∷ []) ∷

@@ -1,4 +1,4 @@
--- Document 01, "Cases": c1 to c10, logs as bytes and what the judge answers, in one table.
+-- Document 01, "Cases": c1 to c10, logs as bytes and what the judge answers, in one table; and behind them logs with an invitation timer.
 use Prim.Native.Nat.{ℕ}
 use mathlib.Core.Path.{_≡_, refl}
 use mathlib.Core.List.{List, [], _∷_, _++_}
@@ -26,9 +26,9 @@ use Rattle.log_claim.specs.Reading.{claimAt}
 use Rattle.log.specs.Reading.{restAt, entryAt}
 use Rattle.table.specs.Judge.{narrow, turn, judgeFrom, judge}
 use Rattle.table.specs.Reading.{entriesIn, entries}
-use Rattle.table.specs.OneTimer.{judgeOne}
-use Rattle.verdict.specs.Table.{parametersNumber, agree}
-use Rattle.verdict.specs.Judge.{versionJudged, judgeOf, answerNumber, answerValues}
+use Rattle.table.specs.TwoTimers.{judgeTwo}
+use Rattle.verdict.specs.Table.{tellsInvitation, parametersNumber, agree}
+use Rattle.verdict.specs.Judge.{invitationTold, versionJudged, judgeOf, answerNumber, answerValues}
 
 -- Settings in range; none of these logs asks for what they are.
 abbrev own : Own
@@ -42,9 +42,12 @@ identity = 0x08 ∷ 0x49 ∷ 0x26 ∷ 0x10 ∷ []
 abbrev notified : List ℕ
 notified = 0x00 ∷ 0x0A ∷ 0x00 ∷ 0x01 ∷ 0x02 ∷ 0x03 ∷ 0x04 ∷ 0x00 ∷ 0x04 ∷ 0x00 ∷ 0x01 ∷ 0x00 ∷ []
 
--- Join, 0 ms: U4, action 4.
+-- Join: U4, action 4. 00 is 0, D0 0F is 2,000, C1 CF 24 is 600,001.
+abbrev join : List ℕ
+join = 0x03 ∷ 0x00 ∷ 0x05 ∷ 0x00 ∷ 0x04 ∷ 0x00 ∷ []
+
 abbrev joins : List ℕ
-joins = 0x00 ∷ 0x03 ∷ 0x00 ∷ 0x05 ∷ 0x00 ∷ 0x04 ∷ 0x00 ∷ []
+joins = 0x00 ∷ join
 
 -- The joining timer expires: U0, actions 9. E0 5D is 12,000.
 abbrev expiresAt12000 : List ℕ
@@ -70,6 +73,13 @@ twiceNoChannel = (0x01 ∷ []) ++ (notified ++ (joins ++ ((0x00 ∷ entered) ++ 
 abbrev termination : List ℕ
 termination = 0x00 ∷ 0x12 ∷ 0x00 ∷ 0x04 ∷ 0x01 ∷ 0x34 ∷ 0x01 ∷ 0x9E ∷ []
 
+-- T_pres expires: U0, action 0. E0 D4 03 is 60,000, DF D4 03 is 59,999.
+abbrev forgotten : List ℕ
+forgotten = 0x13 ∷ 0x00 ∷ 0x00 ∷ 0x00 ∷ 0x00 ∷ 0x00 ∷ []
+
+abbrev forgottenAt60000 : List ℕ
+forgottenAt60000 = notified ++ (0xE0 ∷ 0xD4 ∷ 0x03 ∷ forgotten)
+
 -- Each log with the answer's number and values.
 abbrev pub cases : List (List ℕ × ℕ × List ℕ)
 cases =
@@ -85,6 +95,16 @@ cases =
     (0x01 ∷ (termination ++ (0x00 ∷ 0x00 ∷ 0x00 ∷ 0x00 ∷ 0x00 ∷ [])), 9, 1 ∷ []) ∷  -- and not 0
     (twiceNoChannel ++ (0xE8 ∷ 0x07 ∷ noChannelExpires), 0, 6 ∷ 10000 ∷ 30000 ∷ []) ∷  -- c10: 3,000 ms after the first
     (twiceNoChannel ++ (0xB8 ∷ 0x17 ∷ noChannelExpires), 9, 6 ∷ []) ∷  -- and not after the second
+    (0x03 ∷ [], 0, 0 ∷ 10000 ∷ 30000 ∷ 1000 ∷ 600000 ∷ []) ∷  -- version 3: both timers are told
+    (0x03 ∷ (notified ++ (0xD0 ∷ 0x0F ∷ join)), 0, 2 ∷ 10000 ∷ 30000 ∷ 2000 ∷ 600000 ∷ []) ∷  -- joined after 2,000 ms
+    (0x03 ∷ forgottenAt60000, 0, 2 ∷ 10000 ∷ 30000 ∷ 60000 ∷ 60000 ∷ []) ∷  -- forgotten after 60,000 ms
+    (0x03 ∷ (forgottenAt60000 ++ forgottenAt60000), 0, 4 ∷ 10000 ∷ 30000 ∷ 60000 ∷ 60000 ∷ []) ∷  -- and again,
+    (0x03 ∷ (forgottenAt60000 ++ (notified ++ (0xDF ∷ 0xD4 ∷ 0x03 ∷ forgotten))), 9, 4 ∷ []) ∷  -- but not a millisecond early
+    (0x03 ∷ (forgottenAt60000 ++ (notified ++ (joins ++ expiresAt12000))), 0, 5 ∷ 12000 ∷ 12000 ∷ 60000 ∷ 60000 ∷ []) ∷  -- exactly one pair explains it
+    (0x03 ∷ (notified ++ (0xC1 ∷ 0xCF ∷ 0x24 ∷ join)), 9, 2 ∷ []) ∷  -- joined after 600,001 ms: no invitation timer is so long,
+    (0x02 ∷ (notified ++ (0xC1 ∷ 0xCF ∷ 0x24 ∷ join)), 0, 2 ∷ 10000 ∷ 30000 ∷ []) ∷  -- and version 2 has none
+    (0x02 ∷ forgottenAt60000, 8, 2 ∷ []) ∷  -- nor the event of its expiry
+    (0x03 ∷ 0x00 ∷ 0x13 ∷ 0x03 ∷ 0x00 ∷ 0x00 ∷ 0x00 ∷ 0x00 ∷ [], 0, 1 ∷ 10000 ∷ 30000 ∷ 1000 ∷ 600000 ∷ []) ∷  -- which has no step in U0
     []
 
 -- Each log of a table is answered so.
@@ -94,5 +114,5 @@ Answered (c ∷ cs) =
     ((answerNumber (judgeOf own identity (c .0)) ≡ c .1) × (answerValues (judgeOf own identity (c .0)) ≡ c .2)) × Answered cs
 
 pub all-cases : Answered cases
-unfolding judgeOf versionJudged tableOf settingsOut judgeOne judge judgeFrom turn narrow entries entriesIn numberAt groupsAt joined upTo smallAt runAt callAt receivedAt dataAt claimAt restAt entryAt greatestEvent greatestState greatestActions carriesCall agree parametersNumber weighs stepOf refusalOf fitnessRefusal argumentRefusal outOfRange reactedTo dueTo eventOf toldDue settledBy stepBy seenOf carriedOut decidedBy decidedIn stepTable heardIn happenedIn noStep ignored afterwards withTimer parametersAfter entering startRow valueAfter referenceAfter cleared fitBy consistentBy timersFitBy rememberedFitBy isCleared runningAmong remembering returning expiryOf lengthOf replyOf dueOf sameOctets fitnessOf
-all-cases = ((refl, refl), ((refl, refl), ((refl, refl), ((refl, refl), ((refl, refl), ((refl, refl), ((refl, refl), ((refl, refl), ((refl, refl), ((refl, refl), ((refl, refl), ((refl, refl), tt))))))))))))
+unfolding judgeOf versionJudged invitationTold tellsInvitation tableOf settingsOut judgeTwo judge judgeFrom turn narrow entries entriesIn numberAt groupsAt joined upTo smallAt runAt callAt receivedAt dataAt claimAt restAt entryAt greatestEvent greatestState greatestActions carriesCall agree parametersNumber weighs stepOf refusalOf fitnessRefusal argumentRefusal outOfRange reactedTo dueTo eventOf toldDue settledBy stepBy seenOf carriedOut decidedBy decidedIn stepTable heardIn happenedIn noStep ignored afterwards withTimer parametersAfter entering startRow valueAfter referenceAfter cleared fitBy consistentBy timersFitBy rememberedFitBy isCleared runningAmong remembering returning expiryOf lengthOf replyOf dueOf sameOctets fitnessOf
+all-cases = ((refl, refl), ((refl, refl), ((refl, refl), ((refl, refl), ((refl, refl), ((refl, refl), ((refl, refl), ((refl, refl), ((refl, refl), ((refl, refl), ((refl, refl), ((refl, refl), ((refl, refl), ((refl, refl), ((refl, refl), ((refl, refl), ((refl, refl), ((refl, refl), ((refl, refl), ((refl, refl), ((refl, refl), ((refl, refl), tt))))))))))))))))))))))

@@ -3,6 +3,7 @@ pub mod Near
 pub mod Kept
 pub mod Carried
 pub mod Demand
+pub mod JoiningAlone
 pub mod Formed
 pub mod Recorder
 pub mod Recordable

@@ -22,7 +22,7 @@ use Rattle.radio.proofs.Reacting.{step-by}
 use Rattle.radio.proofs.Answers.{Honest, step-honest, step-short}
 use Rattle.version.specs.declared.Table.{Table}
 use Rattle.version.specs.Version.{greatestEvent, greatestState, greatestActions, longest}
-use Rattle.version.proofs.Tables.{event-so, state-so, actions-so}
+use Rattle.version.proofs.Tables.{state-so, actions-so}
 use Rattle.log_data.specs.declared.Reference.{Reference}
 use Rattle.log_data.specs.Reading.{carriesCall}
 use Rattle.log.specs.Layout.{Field, number, octets, allInRange, dataFields, claimFields, fields, ranged}
@@ -135,7 +135,7 @@ module _ (table : Table) (own : Own) (identity : List ℕ) (x : Context) (e : Gi
 
   call-most : carriesCall (e .happened .number) ≡ true → e .happened .value ≤ 6
   unfolding carriesCall
-  call-most c = leb-true _ 6 (value-most (own .key) (length identity) (e .happened) (passes .range) c)
+  call-most c = leb-true _ 6 (value-most (greatestEvent table) (own .key) (length identity) (e .happened) (passes .range) c)
 
   module _ (delta : ℕ) (day : delta ≤ 86400000) where
     -- Each number of the entry is in range. The context may be any: one that is not fit is answered 7.
@@ -145,10 +145,10 @@ module _ (table : Table) (own : Own) (identity : List ℕ) (x : Context) (e : Gi
         let h : Honest x (stepped table own identity x e) = step-honest table own identity 255 x (e .happened) (e .octets) in
         let l : length (stepped table own identity x e .reply) ≤ 251 = step-short table own identity 255 x (e .happened) (e .octets) in
         number-first 0 86400000 delta _ (omega arith) day
-        (number-first 1 (greatestEvent table) (e .happened .number) _ (number-least (own .key) (length identity) (e .happened) (passes .range))
-        (subst (λ m. e .happened .number ≤ m) (event-so table) (number-most (own .key) (length identity) (e .happened) (passes .range)))
+        (number-first 1 (greatestEvent table) (e .happened .number) _ (number-least (greatestEvent table) (own .key) (length identity) (e .happened) (passes .range))
+        (number-most (greatestEvent table) (own .key) (length identity) (e .happened) (passes .range))
         (data-first (e .happened .number) (e .happened .value) _ (e .happened .mode) (e .octets) _ call-most
-        (mode-most (own .key) (length identity) (e .happened) (passes .range)) message-most
+        (mode-most (greatestEvent table) (own .key) (length identity) (e .happened) (passes .range)) message-most
         (claim-ranged table _ _ _ _ _ answer-most (state-most (stepped table own identity x e .context .state)) (parameters-most (stepped table own identity x e .context .parameters))
         (h .few) (omega (arith, l)))))
 

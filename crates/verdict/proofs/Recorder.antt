@@ -12,7 +12,7 @@ use Rattle.context.specs.declared.Context.{Context}
 use Rattle.reply.specs.declared.Own.{Own}
 use Rattle.step_arguments.specs.Arguments.{settingsOut}
 use Rattle.version.specs.declared.Table.{Table}
-use Rattle.version.specs.declared.Table.the-variants.{First, Second}
+use Rattle.version.specs.declared.Table.the-variants.{First, Second, Third}
 use Rattle.version.specs.Version.{versionOf, tableOf, longest}
 use Rattle.version.proofs.Back.{table-number}
 use Rattle.version.proofs.Tables.{number-small}
@@ -30,14 +30,14 @@ use Rattle.table.specs.Log.{Entry, Moment, begin, next, Explains}
 use Rattle.table.specs.Timers.{Interval, Within}
 use Rattle.table.specs.Judge.{judge, judgeFrom}
 use Rattle.table.specs.Reading.{asLog, entries, entriesIn, written as writtenBy, AllFine}
-use Rattle.table.specs.OneTimer.{oneTimer, lengthsWith, InRange, told, judgeOne}
+use Rattle.table.specs.TwoTimers.{twoTimers, lengthsWith, BothInRange, range, told, judgeTwo}
 use Rattle.table.specs.Recorded.{Move, entryOf, recorded, MadeInTime}
-use Rattle.table.proofs.OneTimer.{one-timer-laws}
+use Rattle.table.proofs.TwoTimers.{two-timers-laws}
 use Rattle.table.proofs.Complete.{recorded-explained, written-accepted}
 use Rattle.verdict.specs.declared.Judged.the-variants.{Accepted}
-use Rattle.verdict.specs.Table.{steps, joining, recordable}
+use Rattle.verdict.specs.Table.{steps, joining, invitation, unknowns, recordable}
 use Rattle.verdict.specs.Entries.{carriedBy, meantBy, carriedEntry, writer}
-use Rattle.verdict.specs.Judge.{versionJudged, judgedOf, judgeOf}
+use Rattle.verdict.specs.Judge.{windowOf, invitationTold, versionJudged, judgedOf, judgeOf}
 use Rattle.verdict.specs.Demand.{Begins}
 use Rattle.verdict.specs.Host.{Recording}
 use Rattle.verdict.proofs.Laws.{steps-laws}
@@ -164,11 +164,11 @@ version-reads table rest =
     number-reads (versionOf table) (omega (arith, number-small table)) [] rest ∙ ap (Value (versionOf table)) (zero-add (length (versionBytes table)))
 
 -- "A log our recorder wrote from true steps is always accepted."
--- A host makes steps from a cleared context on, under settings in range and one joining timer from 10,000 to 30,000 ms, each within the time rules. The
--- recorder is called after every step answered 0 to 3 and takes each entry. Then the bytes used are accepted: every entry, with the timer between
--- the least and the greatest.
-module _ (table : Table) (own : Own) (identity : List ℕ) (settings : settingsOut (own .key) (length identity) ≡ false) (T : ℕ) (in-range : InRange joining T)
-    (ms : List (Move (steps table own identity))) (made : MadeInTime (steps table own identity) (recordable table own identity) (lengthsWith joining T) ms (begin (steps table own identity)) 0) where
+-- A host makes steps from a cleared context on, under settings in range, one joining timer from 10,000 to 30,000 ms and one invitation timer from 1,000 to 600,000 ms,
+-- each within the time rules. The recorder is called after every step answered 0 to 3 and takes each entry. Then the bytes used are accepted: every entry, with each
+-- timer between its least and its greatest.
+module _ (table : Table) (own : Own) (identity : List ℕ) (settings : settingsOut (own .key) (length identity) ≡ false) (T I : ℕ) (in-range : BothInRange unknowns T I)
+    (ms : List (Move (steps table own identity))) (made : MadeInTime (steps table own identity) (recordable table own identity) (lengthsWith unknowns T I) ms (begin (steps table own identity)) 0) where
   abbrev 𝓢₁ : Steps
   𝓢₁ = steps table own identity
 
@@ -177,11 +177,11 @@ module _ (table : Table) (own : Own) (identity : List ℕ) (settings : settingsO
   recordedEntries = recorded 𝓢₁ (recordable table own identity) ms (𝓢₁ .cleared) 0
 
   abbrev pub AcceptedWith : List ℕ → Type 0
-  AcceptedWith log = (i : Interval) × (judgeOf own identity log ≡ Accepted (length recordedEntries) (i .least) (i .greatest)) × Within T i
+  AcceptedWith log = (i j : Interval) × (judgeOf own identity log ≡ Accepted (length recordedEntries) (windowOf i) (invitationTold table j)) × Within T i × Within I j
 
   whole-accepted : (log : List ℕ) → log ≡ whole table (meantAll table own identity recordedEntries) → length log ≤ longest → AllRanged table own identity recordedEntries
       → AcceptedWith log
-  unfolding judgeOne whole
+  unfolding judgeTwo whole
   whole-accepted log is short ranges =
       let es : List (Entry 𝓢₁) = recordedEntries in
       let bytes : log ≡ versionBytes table ++ writtenBy (writer table own identity) (carriedAll table own identity es)
@@ -194,12 +194,17 @@ module _ (table : Table) (own : Own) (identity : List ℕ) (settings : settingsO
         table = table;
         known = table-number table;
       } in
-      let x = carried-explained table own identity (lengthsWith joining T) es (begin 𝓢₁)
-      (recorded-explained 𝓢₁ (recordable table own identity) (still table own identity) (lengthsWith joining T) ms (begin 𝓢₁) 0 made) in
-      let w = written-accepted 𝓢₁ (oneTimer joining) (steps-laws table own identity) (one-timer-laws joining (omega arith)) (writer table own identity)
-      (T, tt) (in-range, tt) (carriedAll table own identity es) (carried-fine table own identity es ranges) x (versionBytes table) log bytes in
-      let n : length (carriedAll table own identity es) ≡ length es = carried-count table own identity es in
-      (w .0 .0, judged-begins own identity log b ∙ ap judgedOf (ap told (w .1)) ∙ ap (λ (k : ℕ). Accepted k (w .0 .0 .least) (w .0 .0 .greatest)) n, w .2 .0)
+      let x = carried-explained table own identity (lengthsWith unknowns T I) es (begin 𝓢₁)
+      (recorded-explained 𝓢₁ (recordable table own identity) (still table own identity) (lengthsWith unknowns T I) ms (begin 𝓢₁) 0 made) in
+      let w = written-accepted 𝓢₁ (twoTimers unknowns) (steps-laws table own identity) (two-timers-laws unknowns (omega arith, omega arith)) (writer table own identity)
+      (T, (I, tt)) (in-range .0, (in-range .1, tt)) (carriedAll table own identity es) (carried-fine table own identity es ranges) x (versionBytes table) log bytes in
+      let n : length (carriedAll table own identity es) ≡ length es = carried-count table own identity es in (
+        w .0 .0,
+        w .0 .1 .0,
+        judged-begins own identity log b ∙ ap (judgedOf table) (ap told (w .1)) ∙ ap (λ (k : ℕ). Accepted k (windowOf (w .0 .0)) (invitationTold table (w .0 .1 .0))) n,
+        w .2 .0,
+        w .2 .1 .0,
+      )
 
   -- From nothing used on: the bytes used, if there are any.
   module _ (before after : List ℕ) (total : ℕ) (recording : Recording table own identity ms (𝓢₁ .cleared) 0 0 before after total) (some : 0 < total) where
@@ -229,9 +234,10 @@ module _ (table : Table) (own : Own) (identity : List ℕ) (settings : settingsO
         let u : length (take total after) ≡ total = length-take-le total after (g .inside) in
         whole-accepted (take total after) (g .bytes) (rw u (g .short (b .short))) (g .in-range)
 
--- A log that the recorder began, with no entry: it is accepted with 0 entries, and every joining timer is left.
+-- A log that the recorder began, with no entry: it is accepted with 0 entries, and every timer is left.
 pub begun-alone : (table : Table) (own : Own) (identity : List ℕ) → settingsOut (own .key) (length identity) ≡ false → (before after : List ℕ) (used : ℕ)
-    → LogBegins table before after (Used used) → judgeOf own identity (take used after) ≡ Accepted 0 (joining .low) (joining .high)
-unfolding whole layout versionOf grouped groups judgeOf versionJudged tableOf numberAt groupsAt joined entries entriesIn judgeOne judge judgeFrom
+    → LogBegins table before after (Used used) → judgeOf own identity (take used after) ≡ Accepted 0 (windowOf (range joining)) (invitationTold table (range invitation))
+unfolding whole layout versionOf grouped groups judgeOf versionJudged tableOf numberAt groupsAt joined entries entriesIn judgeTwo judge judgeFrom invitationTold
 begun-alone First own identity settings before after used begun = rw (begun-log First before after used begun .used, settings) refl
 begun-alone Second own identity settings before after used begun = rw (begun-log Second before after used begun .used, settings) refl
+begun-alone Third own identity settings before after used begun = rw (begun-log Third before after used begun .used, settings) refl

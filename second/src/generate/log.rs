@@ -7,6 +7,7 @@ use super::walk::Walk;
 use crate::log::entry::Entry;
 use crate::log::number;
 use crate::tables::{Table, TABLES};
+use crate::timer::Chosen;
 
 /// The bytes of a log with these entries, of this table's version.
 pub fn bytes(table: Table, entries: &[Entry]) -> Vec<u8> {
@@ -18,23 +19,33 @@ pub fn bytes(table: Table, entries: &[Entry]) -> Vec<u8> {
     log
 }
 
-/// A true run by either table under one timer, sometimes of several calls.
+/// A true run by one of the tables under one timer of each setting, sometimes of
+/// several calls.
 pub fn true_run(random: &mut Random) -> Walk {
     let table = random.pick(&TABLES);
     let identity = own(random, u64::MAX);
-    let conn_req = conn_req(random);
-    let mut walk = Walk::begin(table, identity, conn_req);
+    let chosen = chosen(random);
+    let mut walk = Walk::begin(table, identity, chosen);
     let count = random.pick(&[0, 1, 2, 4, 6, 8, 10, 14, 20, 30]);
     walk.go(random, count);
     walk
 }
 
-pub fn conn_req(random: &mut Random) -> u64 {
-    match random.below(4) {
-        0 => 10_000,
-        1 => 30_000,
-        2 => random.pick(&[10_001, 12_000, 20_000, 29_999]),
-        _ => random.between(10_000, 30_000),
+/// Lengths that the settings may have, often at a limit.
+pub fn chosen(random: &mut Random) -> Chosen {
+    Chosen {
+        joining: match random.below(4) {
+            0 => 10_000,
+            1 => 30_000,
+            2 => random.pick(&[10_001, 12_000, 20_000, 29_999]),
+            _ => random.between(10_000, 30_000),
+        },
+        invitation: match random.below(4) {
+            0 => 1_000,
+            1 => 600_000,
+            2 => random.pick(&[1_001, 10_000, 30_000, 60_000, 599_999]),
+            _ => random.between(1_000, 600_000),
+        },
     }
 }
 
@@ -47,7 +58,7 @@ pub fn damaged(random: &mut Random, mut walk: Walk) -> (Walk, Vec<u8>) {
         4 => order(random, &mut walk.entries),
         5 => another_timer(random, &mut walk),
         6 => log = longer_number(random, walk.table, &walk.entries),
-        // As one of the other version, or of its own.
+        // As one of another version, or of its own.
         7 | 8 => log = bytes(random.pick(&TABLES), &walk.entries),
         9 => {
             log = walk.log();
@@ -90,7 +101,7 @@ pub fn claim(random: &mut Random, entries: &mut [Entry]) {
         6 => {
             entry.reply.pop();
         }
-        _ => entry.event.number = random.between(0, 19) as u32,
+        _ => entry.event.number = random.between(0, 20) as u32,
     }
 }
 
@@ -100,7 +111,7 @@ pub fn time(random: &mut Random, entries: &mut [Entry]) {
         return;
     }
     let expiries: Vec<usize> = (0..entries.len())
-        .filter(|&place| (14..=17).contains(&entries[place].event.number))
+        .filter(|&place| [14, 15, 16, 17, 19].contains(&entries[place].event.number))
         .collect();
     let place = match expiries.is_empty() || random.one_in(3) {
         true => random.place(entries.len()),
@@ -110,7 +121,9 @@ pub fn time(random: &mut Random, entries: &mut [Entry]) {
     *delta = match random.below(5) {
         0 | 1 => *delta + 1,
         2 | 3 => delta.saturating_sub(1),
-        _ => random.pick(&[3_001, 5_001, 10_001, 30_001, 86_400_000, 86_400_001]),
+        _ => random.pick(&[
+            999, 3_001, 5_001, 10_001, 30_001, 600_000, 600_001, 86_400_000, 86_400_001,
+        ]),
     };
 }
 
@@ -129,10 +142,10 @@ fn order(random: &mut Random, entries: &mut Vec<Entry>) {
     }
 }
 
-/// The run goes on with another T_conn req, as no true log does.
+/// The run goes on with another T_conn req and another T_pres, as no true log does.
 fn another_timer(random: &mut Random, walk: &mut Walk) {
     walk.go_home(random);
-    walk.conn_req = conn_req(random);
+    walk.chosen = chosen(random);
     let count = random.length(4, 12);
     walk.go(random, count);
 }

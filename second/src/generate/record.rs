@@ -57,7 +57,7 @@ fn by_chance(random: &mut Random) -> Entry {
     Entry {
         delta: random.pick(&[0, 1, 127, 128, 300, 16_383, 16_384, 2_097_152, 86_400_000]),
         event: Event {
-            number: random.between(1, 18) as u32,
+            number: random.between(1, 19) as u32,
             transaction_value: random.pick(&[0, 3, 6, 6, 7]),
             reference: random.reference(),
             mode: random.pick(&[0, 1, 1, 2]),
@@ -74,7 +74,7 @@ fn by_chance(random: &mut Random) -> Entry {
 fn at_a_limit(random: &mut Random, entry: &mut Entry) {
     match random.below(10) {
         0 => entry.delta = random.pick(&[86_399_999, 86_400_000, 86_400_001, 4_294_967_295]),
-        1 => entry.event.number = random.pick(&[0, 1, 2, 10, 18, 19, 4_294_967_295]),
+        1 => entry.event.number = random.pick(&[0, 1, 2, 10, 18, 19, 20, 4_294_967_295]),
         2 => entry.event.transaction_value = random.pick(&[6, 7, 4_294_967_295]),
         3 => entry.event.mode = random.pick(&[1, 2, 4_294_967_295]),
         4 => entry.answer = random.pick(&[3, 4, 4_294_967_295]),

@@ -10,25 +10,25 @@ pub fn file(random: &mut Random) -> Vec<u8> {
     }
     match random.below(16) {
         // A line repeated, behind or in place of another.
-        0 => lines.push(lines[random.place(4)].clone()),
+        0 => lines.push(lines[random.place(5)].clone()),
         1 => {
-            let (from, to) = (random.place(4), random.place(4));
+            let (from, to) = (random.place(5), random.place(5));
             lines[to] = lines[from].clone();
         }
         2 => {
-            lines.remove(random.place(4));
+            lines.remove(random.place(5));
         }
-        3 => lines.truncate(random.place(4)),
+        3 => lines.truncate(random.place(5)),
         4 => {
-            let place = random.place(5);
+            let place = random.place(6);
             lines.insert(place, "\n".to_string());
         }
         5 => {
-            let place = random.place(4);
+            let place = random.place(5);
             lines[place] = lines[place].replace('\n', "\r\n");
         }
         6 | 7 => {
-            let place = random.place(4);
+            let place = random.place(5);
             lines[place] = at_a_limit(random);
         }
         _ => (),
@@ -40,18 +40,28 @@ pub fn file(random: &mut Random) -> Vec<u8> {
     bytes
 }
 
-/// The four lines, good.
+/// The five lines, good.
 fn lines(random: &mut Random) -> Vec<String> {
     let length = random.pick(&[1, 2, 3, 7, 8]);
-    let milliseconds = match random.below(3) {
+    let conn_req = match random.below(3) {
         0 => random.pick(&[10_000, 30_000, 10_001, 29_999]),
         _ => random.between(10_000, 30_000),
+    };
+    // Of four, five and six digits.
+    let present = match random.below(4) {
+        0 => random.pick(&[
+            1_000, 1_001, 9_999, 10_000, 99_999, 100_000, 599_999, 600_000,
+        ]),
+        1 => random.between(1_000, 9_999),
+        2 => random.between(10_000, 99_999),
+        _ => random.between(100_000, 600_000),
     };
     vec![
         format!("cksn={}\n", random.below(8)),
         format!("classmark={}\n", hexadecimal(random, 3)),
         format!("identity={}\n", hexadecimal(random, length)),
-        format!("conn_req_ms={milliseconds}\n"),
+        format!("conn_req_ms={conn_req}\n"),
+        format!("present_ms={present}\n"),
     ]
 }
 
@@ -97,6 +107,20 @@ fn at_a_limit(random: &mut Random) -> String {
         "Cksn=3",
         "identity",
         "conn-req-ms=12000",
+        "present_ms=999",
+        "present_ms=1000",
+        "present_ms=600000",
+        "present_ms=600001",
+        "present_ms=01000",
+        "present_ms=0600000",
+        "present_ms=1000000",
+        "present_ms=4294968296",
+        "present_ms=18446744073709552616",
+        "present_ms=+1000",
+        "present_ms=",
+        "present=1000",
+        "conn_req_ms=1000",
+        "conn_req_ms=600000",
         "",
     ]);
     format!("{line}\n")

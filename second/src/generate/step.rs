@@ -7,7 +7,7 @@ use super::walk::likely_event;
 use super::write::buffer_length;
 use crate::commands::{Identity, Step};
 use crate::context::Context;
-use crate::event::Event;
+use crate::event::{all_but_messages, Event};
 use crate::state::{Parameters, State, STATES};
 use crate::tables::Table;
 use crate::timer::RunningTimers;
@@ -57,7 +57,7 @@ pub fn fit_context(random: &mut Random) -> Context {
             parameters = Parameters::from_number(random.octet() & 15);
         }
         // Every state has a fit set among no timer and each single one.
-        let timers = RunningTimers::from_number(random.pick(&[0, 1, 2, 4, 8]));
+        let timers = RunningTimers::from_number(random.pick(&[0, 1, 2, 4, 8, 16]));
         let remembered = match state {
             State::U5 => Some(random.pick(Table::NEWEST.asked_from())),
             _ => None,
@@ -87,7 +87,7 @@ fn event(random: &mut Random, context: &Context, own: &Identity) -> Event {
             ..filled(random)
         },
         5..=6 => Event {
-            number: random.between(1, 17) as u32,
+            number: random.pick(&all_but_messages(Table::NEWEST)),
             ..filled(random)
         },
         _ => Event {
@@ -145,18 +145,19 @@ fn message(random: &mut Random, context: &Context, own: &[u8]) -> Vec<u8> {
 }
 
 fn unfit(random: &mut Random, step: &mut Step) {
-    match random.below(9) {
+    match random.below(10) {
         0 => step.parameters = random.octet() & 15,
-        1 => step.timers = random.octet() & 15,
+        1 => step.timers = random.octet() & 31,
         2 => step.transaction_value = random.pick(&[6, 7, 8, 255]),
         3 => step.state = random.pick(&[7, 8, 9, 255]),
         4 => step.state = random.octet() & 7,
         5 => step.reference = random.reference(),
         6 => step.remembered = random.pick(&[0, 1, 2, 3, 4, 5, 6, 7, 8, 255]),
         7 => in_u5_by_chance(random, step),
+        8 => with_the_invitation(random, step),
         _ => {
             step.parameters = random.octet() & 15;
-            step.timers = random.octet() & 15;
+            step.timers = random.octet() & 31;
             step.state = random.octet() & 15;
         }
     }
@@ -167,4 +168,16 @@ fn in_u5_by_chance(random: &mut Random, step: &mut Step) {
     step.state = State::U5.number();
     step.timers = random.pick(&[0, 4, 4, 8]);
     step.remembered = random.pick(&[0, 1, 2, 3, 4, 255]);
+}
+
+/// U3 with T_pres or without it, beside another timer or not; or T_pres elsewhere.
+fn with_the_invitation(random: &mut Random, step: &mut Step) {
+    if random.one_in(2) {
+        step.timers ^= 16;
+        return;
+    }
+    step.state = State::U3.number();
+    step.parameters = random.octet() & 3;
+    step.timers = random.pick(&[0, 16, 16, 17, 18, 20, 24]);
+    step.remembered = 0;
 }

@@ -1,12 +1,13 @@
 //! True runs: entries that the step by one table gives, under one T_conn req and
-//! within the time rules, led so that they reach every state and every row.
+//! one T_pres and within the time rules, led so that they reach every state and
+//! every row.
 
 use super::log::bytes;
 use super::messages;
 use super::random::Random;
 use crate::commands::Identity;
 use crate::context::Context;
-use crate::event::{carries, Carries, Event};
+use crate::event::{all_but_messages, carries, Carries, Event};
 use crate::log::entry::Entry;
 use crate::message::Kind;
 use crate::own::Own;
@@ -14,25 +15,25 @@ use crate::state::State;
 use crate::step::step;
 use crate::step::table::{Next, Row, Trigger};
 use crate::tables::Table;
+use crate::timer::Chosen;
 
 pub struct Walk {
     pub table: Table,
     pub own: Identity,
     pub context: Context,
-    /// The one setting, T_conn req.
-    pub conn_req: u64,
+    pub chosen: Chosen,
     pub entries: Vec<Entry>,
     /// How long the running timer still has, if one runs.
     left: Option<u64>,
 }
 
 impl Walk {
-    pub fn begin(table: Table, own: Identity, conn_req: u64) -> Walk {
+    pub fn begin(table: Table, own: Identity, chosen: Chosen) -> Walk {
         Walk {
             table,
             own,
             context: Context::cleared(),
-            conn_req,
+            chosen,
             entries: Vec::new(),
             left: None,
         }
@@ -70,7 +71,7 @@ impl Walk {
         for row in self.table.timers() {
             let before = self.context.timers.runs(row.timer);
             match (before, outcome.context.timers.runs(row.timer)) {
-                (false, true) => self.left = Some(row.milliseconds.unwrap_or(self.conn_req)),
+                (false, true) => self.left = Some(row.length.milliseconds(&self.chosen)),
                 (true, false) if outcome.context.timers.number() == 0 => self.left = None,
                 _ => (),
             }
@@ -89,9 +90,11 @@ impl Walk {
 
     /// A time that the rules allow: all that is left for the expiry of a
     /// running timer, at most that for anything else.
-    fn delta(&self, random: &mut Random, event: u32) -> u64 {
+    pub fn delta(&self, random: &mut Random, event: u32) -> u64 {
         let Some(left) = self.left else {
-            return random.pick(&[0, 1, 127, 128, 999, 60_000, 16_384, 86_400_000]);
+            return random.pick(&[
+                0, 1, 127, 128, 999, 60_000, 16_384, 600_000, 600_001, 86_400_000,
+            ]);
         };
         let expires = self
             .table
@@ -116,8 +119,11 @@ pub fn likely_event(random: &mut Random, table: Table, context: &Context, own: &
     let mode = u32::from(random.octet() & 1);
     match random.below(20) {
         0..=12 => {
-            let row = likely_row(random, table, context);
-            on_trigger(random, table, row.trigger, context, own)
+            let trigger = match running_out(table, context) {
+                Some(expiry) if random.one_in(6) => Trigger::Event(expiry),
+                _ => likely_row(random, table, context).trigger,
+            };
+            on_trigger(random, table, trigger, context, own)
         }
         13 | 14 => {
             let kind = random.pick(&[Kind::GetStatus, Kind::SetParameter]);
@@ -130,10 +136,17 @@ pub fn likely_event(random: &mut Random, table: Table, context: &Context, own: &
             Event::received(mode, octets)
         }
         _ => {
-            let number = random.between(1, 17) as u32;
+            let number = random.pick(&all_but_messages(table));
             on_trigger(random, table, Trigger::Event(number), context, own)
         }
     }
+}
+
+/// The expiry of a timer that runs.
+fn running_out(table: Table, context: &Context) -> Option<u32> {
+    let mut rows = table.timers().iter();
+    rows.find(|row| context.timers.runs(row.timer))
+        .map(|row| row.expiry)
 }
 
 /// A row of this state; rows that end the call are mostly passed over.

@@ -25,11 +25,13 @@ pub fn judge(fields: &[&[u8]]) -> Option<String> {
         Judgement::OutsideRange => OUTSIDE_RANGE.to_string(),
         Judgement::Unreadable(entry) => format!("{LOG_UNREADABLE} {entry}"),
         Judgement::Unexplained(entry) => format!("{ENTRY_UNEXPLAINED} {entry}"),
-        Judgement::Accepted {
-            count,
-            least,
-            greatest,
-        } => format!("{TAKEN} {count} {least} {greatest}"),
+        Judgement::Accepted { count, windows } => {
+            let mut accepted = format!("{TAKEN} {count}");
+            for window in windows {
+                accepted.push_str(&format!(" {} {}", window.least, window.greatest));
+            }
+            accepted
+        }
     })
 }
 

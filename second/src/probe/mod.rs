@@ -58,11 +58,12 @@ fn settings_file(fields: &[&[u8]]) -> Option<String> {
     Some(match settings::read(&tokens::octets(file)?) {
         Err(line) => format!("{SETTINGS_REFUSED} {line}"),
         Ok(read) => format!(
-            "0 {} {} {} {}",
+            "0 {} {} {} {} {}",
             read.key_number,
             tokens::hexadecimal(&read.classmark),
             tokens::hexadecimal(&read.identity),
-            read.conn_req_ms
+            read.conn_req_ms,
+            read.present_ms
         ),
     })
 }

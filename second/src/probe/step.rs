@@ -50,7 +50,7 @@ fn context_of(tokens: &[&[u8]]) -> Option<Option<Context>> {
     };
     let state = State::from_number(small(state, 255)?);
     let parameters = Parameters::from_number(small(parameters, 15)?);
-    let timers = RunningTimers::from_number(small(timers, 15)?);
+    let timers = RunningTimers::from_number(small(timers, 31)?);
     let transaction_value = small(value, 255)?;
     let reference = exactly(reference)?;
     let remembered = match small(from, 255)? {

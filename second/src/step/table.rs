@@ -1,6 +1,6 @@
-//! The step table of document 01, row by row in its order; where A2 of document
-//! 02 changes a row, the old and the new one stand next to each other, each
-//! with the tables that have it. Where a row of the paper gives two outcomes
+//! The step table of document 01, row by row in its order; where A2 or A13 of
+//! document 02 changes a row, the old and the new one stand next to each other,
+//! each with the tables that have it. Where a row of the paper gives two outcomes
 //! ("0 for 7; 8 for 14"; "32 if ..., else 0"), it stands here as two rows, the
 //! narrower one first: the first row that matches is the one taken.
 
@@ -88,7 +88,11 @@ pub struct Row {
 }
 
 /// Rows that no broadcast table has otherwise.
-const BROADCAST: &[Table] = &[First, Second];
+const BROADCAST: &[Table] = &[First, Second, Third];
+/// Tables in which a rejected termination leads back.
+const RETURNING: &[Table] = &[Second, Third];
+/// Tables in which an invitation lasts for ever.
+const UNTIMED: &[Table] = &[First, Second];
 const ALL_BUT_U0: &[State] = &[U0p, U1, U2, U3, U4, U5, U6];
 const U2_TO_U6: &[State] = &[U2, U3, U4, U5, U6];
 
@@ -113,7 +117,7 @@ const fn row(
 }
 
 #[rustfmt::skip]
-const ROWS: [Row; 24] = [
+const ROWS: [Row; 27] = [
     row(BROADCAST,  &[U0],       Always,           On(SET_UP_REQUEST),                  To(U0p),  REQUEST_MM_CONNECTION,      &[StoreCall, Set(MmEst)]),
     row(BROADCAST,  &[U0],       Always,           On(IMMEDIATE_SET_UP_REQUEST),        To(U1),   NONE,                       &[StoreCall, Send(Kind::ImmediateSetup), Set(MmEst)]),
     row(BROADCAST,  &[U0p],      Always,           On(MM_CONNECTION_ESTABLISHED),       To(U1),   NONE,                       &[Send(Kind::Setup), Stop(MmEst)]),
@@ -122,17 +126,20 @@ const ROWS: [Row; 24] = [
     row(BROADCAST,  &[U0p, U1],  Always,           On(RADIO_LINK_FAILURE),              To(U0),   ABORT,                      &[]),
     row(BROADCAST,  &[U1],       With(MmEst),      Received(Kind::Connect),             To(U2),   MM_EXISTS_IMPLICITLY,       &[StoreItsReference, Stop(MmEst)]),
     row(BROADCAST,  &[U0p, U1],  Always,           Received(Kind::Connect),             To(U2),   NONE,                       &[StoreItsReference, Stop(MmEst)]),
-    row(BROADCAST,  &[U0],       Always,           On(BROADCAST_NOTIFIED),              To(U3),   INFORM,                     &[StoreCall]),
-    row(BROADCAST,  &[U3],       Always,           On(JOIN),                            To(U4),   REQUEST_GROUP_RECEIVE_MODE, &[Set(ConnReq)]),
+    row(UNTIMED,    &[U0],       Always,           On(BROADCAST_NOTIFIED),              To(U3),   INFORM,                     &[StoreCall]),
+    row(&[Third],   &[U0],       Always,           On(BROADCAST_NOTIFIED),              To(U3),   INFORM,                     &[StoreCall, Set(Pres)]),
+    row(UNTIMED,    &[U3],       Always,           On(JOIN),                            To(U4),   REQUEST_GROUP_RECEIVE_MODE, &[Set(ConnReq)]),
+    row(&[Third],   &[U3],       Always,           On(JOIN),                            To(U4),   REQUEST_GROUP_RECEIVE_MODE, &[Stop(Pres), Set(ConnReq)]),
+    row(&[Third],   &[U3],       With(Pres),       On(EXPIRY_PRES),                     To(U0),   NONE,                       &[]),
     row(BROADCAST,  &[U4],       Always,           On(GROUP_RECEIVE_MODE_ENTERED),      To(U6),   INFORM,                     &[Stop(ConnReq)]),
     row(BROADCAST,  &[U4],       Always,           On(EXPIRY_CONN_REQ),                 To(U0),   INFORM + ABORT,             &[]),
     row(BROADCAST,  &[U6],       Always,           On(NO_CHANNEL),                      To(U6),   INFORM,                     &[Set(NoChannel)]),
     row(BROADCAST,  &[U6],       Always,           On(CHANNEL_AVAILABLE),               To(U6),   INFORM,                     &[Stop(NoChannel)]),
     row(BROADCAST,  &[U6],       With(NoChannel),  On(EXPIRY_NO_CHANNEL),               To(U0),   INFORM + ABORT,             &[]),
     row(&[First],   &[U1, U2],   OrigTrue,         On(TERMINATE),                       To(U5),   NONE,                       &[Send(Kind::TerminationRequest), Stop(MmEst), Set(Term)]),
-    row(&[Second],  &[U1, U2],   OrigTrue,         On(TERMINATE),                       To(U5),   NONE,                       &[Send(Kind::TerminationRequest), Stop(MmEst), Set(Term), Remember]),
+    row(RETURNING,  &[U1, U2],   OrigTrue,         On(TERMINATE),                       To(U5),   NONE,                       &[Send(Kind::TerminationRequest), Stop(MmEst), Set(Term), Remember]),
     row(&[First],   &[U5],       Always,           Received(Kind::TerminationReject),   To(U5),   INFORM,                     &[Stop(Term)]),
-    row(&[Second],  &[U5],       Always,           Received(Kind::TerminationReject),   Back,     INFORM,                     &[Stop(Term), Forget]),
+    row(RETURNING,  &[U5],       Always,           Received(Kind::TerminationReject),   Back,     INFORM,                     &[Stop(Term), Forget]),
     row(BROADCAST,  &[U5],       With(Term),       On(EXPIRY_TERM),                     To(U0),   INFORM + ABORT,             &[]),
     row(BROADCAST,  ALL_BUT_U0,  Always,           Received(Kind::Termination),         To(U0),   INFORM + RELEASE_IT,        &[]),
     row(BROADCAST,  ALL_BUT_U0,  Always,           On(RELEASE),                         To(U0),   RELEASE_IT,                 &[]),

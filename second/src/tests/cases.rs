@@ -102,7 +102,7 @@ fn an_unexplained_entry_hides_what_stands_behind() {
 fn version_in_other_forms() {
     for log in [
         "00",
-        "03",
+        "04",
         "10",
         "7f",
         "8100",
@@ -113,6 +113,9 @@ fn version_in_other_forms() {
         "8002",
         "81808000",
         "82808000",
+        "8300",
+        "8301",
+        "8003",
         "ffffffff0f",
     ] {
         judged(log, "8 0");
@@ -120,6 +123,9 @@ fn version_in_other_forms() {
     judged("02", "0 0 10000 30000");
     judged("0200030300000000", "0 1 10000 30000");
     judged("028000", "8 1");
+    judged("03", "0 0 10000 30000 1000 600000");
+    judged("0300030300000000", "0 1 10000 30000 1000 600000");
+    judged("038000", "8 1");
 }
 
 #[test]

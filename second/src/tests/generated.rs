@@ -10,7 +10,8 @@ use crate::log::record::record;
 use crate::own::Own;
 use crate::probe::answer;
 use crate::step::table::Row;
-use crate::tables::{Table, TABLES};
+use crate::tables::TABLES;
+use crate::timer::Length;
 
 fn commands(seed: u64, count: u64, word: &str) -> Vec<String> {
     let mut lines = Vec::new();
@@ -37,14 +38,15 @@ fn true_runs_are_accepted() {
     for _ in 0..2_000 {
         let run = true_run(&mut random);
         match judged(&run, &run.log()) {
-            Judgement::Accepted {
-                count,
-                least,
-                greatest,
-            } => {
+            Judgement::Accepted { count, windows } => {
                 assert_eq!(count, run.entries.len() as u64);
-                assert!((least..=greatest).contains(&run.conn_req));
-                assert!(least >= 10_000 && greatest <= 30_000);
+                assert_eq!(windows.len(), run.table.settings().len());
+                for (setting, window) in run.table.settings().iter().zip(windows) {
+                    let length = Length::Set(*setting).milliseconds(&run.chosen);
+                    assert!((window.least..=window.greatest).contains(&length));
+                    let (least, greatest) = setting.bounds();
+                    assert!(window.least >= least && window.greatest <= greatest);
+                }
             }
             other => panic!("{other:?}"),
         }
@@ -69,7 +71,7 @@ fn true_runs_reach_every_row_and_answer() {
 
 /// How often each row was taken, and each answer given.
 fn count_rows(run: &Walk, rows: &mut [(&Row, u32)], answers: &mut [u32; 4]) {
-    let mut again = Walk::begin(run.table, run.own.clone(), run.conn_req);
+    let mut again = Walk::begin(run.table, run.own.clone(), run.chosen);
     for entry in &run.entries {
         answers[entry.answer as usize] += 1;
         for (row, count) in rows.iter_mut() {
@@ -156,6 +158,60 @@ fn every_reason_is_reached_often() {
     assert!(reasons.iter().all(|&count| count > 100), "{reasons:?}");
 }
 
+/// Commands by chance with their answers, both in tokens; spoilt lines left out.
+fn asked(seed: u64, word: &str) -> Vec<(Vec<String>, Vec<String>)> {
+    let tokens = |line: &str| line.split(' ').map(str::to_string).collect::<Vec<String>>();
+    commands(seed, 20_000, word)
+        .iter()
+        .map(|line| (tokens(line), tokens(&answer(line.as_bytes()))))
+        .filter(|(_, answered)| answered[0] != "?")
+        .collect()
+}
+
+#[test]
+fn invitations_are_reached_often() {
+    let steps = asked(10, "step");
+    let count = |event: &str, answered: &str| {
+        let with_it = |(line, got): &&(Vec<String>, Vec<String>)| {
+            line[11] == event && got.join(" ").starts_with(answered)
+        };
+        steps.iter().filter(with_it).count()
+    };
+    // Notified, joined, run out, run out elsewhere, no event, not fit.
+    assert!(count("10", "0 4 0 16 ") > 30);
+    assert!(count("3", "0 5 0 2 ") > 30);
+    assert!(count("19", "0 0 0 0 0 00000000 0 0 -") > 30);
+    assert!(count("19", "3 ") > 30);
+    assert!(count("20", "4 ") > 30);
+    assert!(count("19", "7 ") > 10);
+    // Version 3 accepted, with an invitation timer fixed by its expiry, and refused.
+    let logs = asked(11, "judge");
+    let judged = |fits: &dyn Fn(&str, &[String]) -> bool| {
+        logs.iter()
+            .filter(|(line, got)| fits(&line[4], got))
+            .count()
+    };
+    assert!(judged(&|log, got| log.starts_with("03") && got.len() == 6) > 1_000);
+    assert!(judged(&|_, got| got.len() == 6 && got[4] == got[5] && got[5] != "600000") > 200);
+    assert!(judged(&|log, got| log.starts_with("03") && got[0] == "9") > 500);
+    // Files with each limit of the fifth line, and without that line.
+    let files = asked(12, "settings");
+    let read = |ends: &str| {
+        files
+            .iter()
+            .filter(|(_, got)| got.join(" ").ends_with(ends))
+            .count()
+    };
+    assert!(read(" 1000") > 100 && read(" 600000") > 100);
+    assert!(
+        files
+            .iter()
+            .filter(|(_, got)| got.join(" ") == "12 5")
+            .count()
+            > 100
+    );
+}
+
 #[test]
 fn every_answer_number_is_reached() {
     let reached = |word: &str| {
@@ -181,12 +237,13 @@ fn runs_by_each_table_are_judged_under_each_version() {
     let mut random = Random::from_seed(9);
     for table in TABLES.into_iter().cycle().take(400) {
         let lines = versions::round(&mut random, table);
-        // True and changed, each under 1 and under 2.
-        assert_eq!(lines.len(), 4);
-        let own = usize::from(table == Table::Second);
+        // True and changed, each under 1, under 2 and under 3.
+        assert_eq!(lines.len(), 6);
+        let own = table.version() as usize - 1;
         assert!(answer(lines[own].as_bytes()).starts_with("0 "));
         let entries = |line: &str| line.rsplit_once(' ').expect("a log").1[2..].to_string();
-        assert_eq!(entries(&lines[0]), entries(&lines[1]));
-        assert_eq!(entries(&lines[2]), entries(&lines[3]));
+        for same in [&lines[..3], &lines[3..]] {
+            assert!(same.iter().all(|line| entries(line) == entries(&same[0])));
+        }
     }
 }

@@ -1,14 +1,16 @@
 //! The program's own tests. Expected octets are worked out by hand from the
 //! papers. Three files compare the program with itself and say nothing about
 //! the papers: `generated`, `vectors`, and of `tables` the test that steps keep
-//! contexts fit.
+//! contexts fit. `pairs` holds the judge to the step, one pair of timers at a time.
 
 mod cases;
 mod generated;
+mod invitations;
 mod limits;
 mod lines;
 mod messages;
 mod optional;
+mod pairs;
 mod reasons;
 mod received;
 mod recorder;

@@ -9,6 +9,7 @@ use crate::generate::walk::Walk;
 use crate::log::record::record;
 use crate::probe::tokens::hexadecimal;
 use crate::tables::Table;
+use crate::timer::Chosen;
 
 const U0: &str = "0 0 0 0 00000000 0";
 /// Each state but U0, once with COMM true where that is consistent and once
@@ -23,7 +24,7 @@ const COMM_FALSE: [(&str, &str); 7] = [
     ("1 8 8 5 0a0b0c0d 0", "d1"),
     ("2 8 0 5 0a0b0c0d 0", "d1"),
     ("3 11 0 5 0a0b0c0d 0", "d1"),
-    ("4 0 0 5 0a0b0c0d 0", "51"),
+    ("4 0 16 5 0a0b0c0d 0", "51"),
     ("5 0 2 5 0a0b0c0d 0", "51"),
     ("6 11 4 5 0a0b0c0d 3", "d1"),
     ("7 2 1 5 0a0b0c0d 0", "51"),
@@ -189,7 +190,7 @@ fn comm_false_and_a_connect_for_another() {
 #[test]
 fn comm_false_and_inconsistent_parameters() {
     for context in [
-        "4 0 0 5 0a0b0c0d 0",
+        "4 0 16 5 0a0b0c0d 0",
         "5 0 2 5 0a0b0c0d 0",
         "7 2 0 5 0a0b0c0d 0",
     ] {
@@ -256,7 +257,11 @@ fn the_log_writes_1_for_all_six() {
         classmark: [0x33, 0x59, 0xA2],
         identity: vec![0x29, 0xF1],
     };
-    let mut walk = Walk::begin(Table::NEWEST, own, 10_000);
+    let chosen = Chosen {
+        joining: 10_000,
+        invitation: 1_000,
+    };
+    let mut walk = Walk::begin(Table::NEWEST, own, chosen);
     let (mut log, mut used) = (vec![0; 200], 0);
     for event in ignored_in_turn() {
         walk.enter(event, 0);
@@ -265,14 +270,14 @@ fn the_log_writes_1_for_all_six() {
     }
     // Delta, event, mode, length, octets; answer 1, U6, D-ATT, no action, no
     // reply; then the release, and the last one in U0.
-    let expected = "02 000a05010203040004000100 00030005000400 000b0007020100 \
+    let expected = "03 000a05010203040004000100 00030005000400 000b0007020100 \
         001201000107020000 0012010252390107020000 0012010241390107020000 \
         0012010551391701290107020000 0012010251390107020000 \
         00050000001000 0012010251390100000000";
     let expected = expected.replace(' ', "");
     assert_eq!(hexadecimal(&log[..used]), expected);
     let judge = format!("judge 3 3359a2 29f1 {expected}");
-    expect(&judge, "0 10 10000 30000");
+    expect(&judge, "0 10 10000 30000 1000 600000");
     // What the log does not tell: 2, 3, 4, 5, 6 and 1.
     let context = "7 2 0 5 01020304 0";
     expect_ignored(context, 1, "-", 2);

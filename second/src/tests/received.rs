@@ -45,8 +45,8 @@ fn rule_2() {
         reported(U2, octets, &format!("51.38.03.e2.{octets}.a2.bf"));
     }
     // COMM false: ignored.
-    ignored("4 0 0 5 0a0b0c0d 0", 0, "51.00", 6);
-    ignored("4 0 0 5 0a0b0c0d 0", 0, "51.33.01020304.01", 6);
+    ignored("4 0 16 5 0a0b0c0d 0", 0, "51.00", 6);
+    ignored("4 0 16 5 0a0b0c0d 0", 0, "51.33.01020304.01", 6);
     ignored("1 8 8 5 0a0b0c0d 0", 0, "d1.36.01.90", 6);
     // U0.p with COMM true by SET PARAMETER: call state 6, COMM and ORIG.
     reported("1 12 8 5 0a0b0c0d 0", "d1.36", "51.38.03.e2.d136.a6.b3");
@@ -133,7 +133,7 @@ fn set_parameter() {
         "d1.3a.0f",
         "0 1 15 8 5 0a0b0c0d 0 0 -",
     );
-    for state in ["4 0 0", "5 0 2", "7 2 1"] {
+    for state in ["4 0 16", "5 0 2", "7 2 1"] {
         let context = format!("{state} 5 0a0b0c0d 0");
         ignored(&context, 0, "51.3a.01", 6);
         ignored(&context, 0, "51.3a.02", 6);

@@ -1,4 +1,5 @@
-//! The recorder (document 01, "The log"), which begins logs with 2 (document 02, A2).
+//! The recorder (document 01, "The log"), which begins logs with 3 (document 02,
+//! A13).
 
 use super::expect;
 
@@ -8,11 +9,11 @@ const JOIN: &str = "3 0 00000000 0 - 3 0 0 0 -";
 fn the_entry_of_document_01() {
     expect(
         &format!("record eeeeeeeeeeeeeeeeee 0 0 {JOIN}"),
-        "0 8 0200030300000000.ee",
+        "0 8 0300030300000000.ee",
     );
     expect(
         &format!("record eeeeeeeeeeeeeeee 0 0 {JOIN}"),
-        "0 8 0200030300000000",
+        "0 8 0300030300000000",
     );
     expect(&format!("record eeeeeeeeeeeeee 0 0 {JOIN}"), "11");
     expect(&format!("record - 0 0 {JOIN}"), "11");
@@ -81,10 +82,11 @@ fn fields_at_their_limits() {
         crate::probe::answer(line.as_bytes())
     };
     assert!(record("86400000 17 7 00000000 2 - 3 7 15 63 -").starts_with("0 "));
+    assert!(record("86400000 19 7 00000000 2 - 3 7 15 63 -").starts_with("0 "));
     for refused in [
         "86400001 17 7 00000000 2 - 3 7 15 63 -",
         "0 0 0 00000000 0 - 3 7 15 63 -",
-        "0 19 0 00000000 0 - 3 7 15 63 -",
+        "0 20 0 00000000 0 - 3 7 15 63 -",
         "0 17 0 00000000 0 - 4 7 15 63 -",
         "0 17 0 00000000 0 - 3 8 15 63 -",
         "0 17 0 00000000 0 - 3 7 16 63 -",

@@ -1,5 +1,5 @@
 //! A rejected termination leads back to the state that it was asked from
-//! (document 02, A2): the rows, what is fit, and logs of both versions. FROM is
+//! (document 02, A2): the rows, what is fit, and logs of versions 1 and 2. FROM is
 //! 2 for U1, 3 for U2, 0 for nothing.
 
 use super::{cleared, expect, expect_ignored, expect_step};
@@ -39,7 +39,7 @@ fn without_orig_nothing_is_asked_nor_remembered() {
     for context in [
         "0 0 0 0 00000000 0",
         "1 8 8 5 0a0b0c0d 0",
-        "4 0 0 5 0a0b0c0d 0",
+        "4 0 16 5 0a0b0c0d 0",
         "5 0 2 5 0a0b0c0d 0",
         U5_FROM_U1,
         U5_FROM_U2,
@@ -97,7 +97,7 @@ fn what_stays_in_u5_keeps_what_is_remembered() {
         let set = format!("0 {} 0 -", u5(4, from));
         expect_step(&context, "18 0 00000000 0 d1.3a.02", &set);
         expect_ignored(&context, 1, "d1.39.17.01.29", 5);
-        for event in [1, 2, 3, 6, 7, 10, 11, 12, 13, 14, 16, 17] {
+        for event in [1, 2, 3, 6, 7, 10, 11, 12, 13, 14, 16, 17, 19] {
             no_step(&context, event);
         }
     }
@@ -151,7 +151,7 @@ fn contexts_that_are_not_fit() {
             "2 12 8 5 0a0b0c0d",
             "2 12 0 5 0a0b0c0d",
             "3 15 0 5 0a0b0c0d",
-            "4 0 0 5 0a0b0c0d",
+            "4 0 16 5 0a0b0c0d",
             "5 0 2 5 0a0b0c0d",
             "7 2 0 5 0a0b0c0d",
             "7 2 1 5 0a0b0c0d",

@@ -1,5 +1,5 @@
-//! Each row of the step table of document 01, and its edges; `returns` has those
-//! that document 02 changes. Contexts are `STATE PARAMS TIMERS TV REF FROM`;
+//! Each row of the step table of document 01, and its edges; `returns` and
+//! `invitations` have those that document 02 changes. Contexts are `STATE PARAMS TIMERS TV REF FROM`;
 //! value 5, reference 0A 0B 0C 0D throughout.
 
 use super::{cleared, expect, expect_step};
@@ -9,7 +9,7 @@ const U0P: &str = "1 8 8 5 0a0b0c0d 0";
 const U1_TIMER: &str = "2 12 8 5 0a0b0c0d 0";
 const U1: &str = "2 12 0 5 0a0b0c0d 0";
 const U2: &str = "3 15 0 5 0a0b0c0d 0";
-const U3: &str = "4 0 0 5 0a0b0c0d 0";
+const U3: &str = "4 0 16 5 0a0b0c0d 0";
 const U4: &str = "5 0 2 5 0a0b0c0d 0";
 const U5_FROM_U1: &str = "6 15 4 5 0a0b0c0d 2";
 const U5_FROM_U2: &str = "6 15 4 5 0a0b0c0d 3";
@@ -64,7 +64,7 @@ fn connect() {
 
 #[test]
 fn joining() {
-    on(U0, 10, "0 4 0 0 5 0a0b0c0d 0 1 -");
+    on(U0, 10, "0 4 0 16 5 0a0b0c0d 0 1 -");
     on(U3, 3, "0 5 0 2 5 0a0b0c0d 0 4 -");
     on(U4, 11, "0 7 2 0 5 0a0b0c0d 0 1 -");
     on(U4, 16, &cleared(9));
@@ -135,7 +135,7 @@ fn order_of_the_tests() {
     );
     // Only event 18 carries a message.
     expect(
-        &format!("step 0 0 0 0 00000000 0 0 000000 29 255 19 0 00000000 0 {long}"),
+        &format!("step 0 0 0 0 00000000 0 0 000000 29 255 20 0 00000000 0 {long}"),
         "4 0 0 0 0 00000000 0 0 - 0",
     );
     expect(
@@ -156,7 +156,7 @@ fn arguments_outside_their_range() {
     refused("0 000000 -", "3 0 00000000 0 -");
     refused("0 000000 290000000000000000", "3 0 00000000 0 -");
     refused("0 000000 29", "0 0 00000000 0 -");
-    refused("0 000000 29", "19 0 00000000 0 -");
+    refused("0 000000 29", "20 0 00000000 0 -");
     refused("0 000000 29", "4294967295 0 00000000 0 -");
     refused("0 000000 29", "18 0 00000000 2 d139");
     for event in [1, 2, 10] {

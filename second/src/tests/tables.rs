@@ -2,7 +2,7 @@
 //! steps keep contexts fit.
 
 use crate::context::Context;
-use crate::event::Event;
+use crate::event::{all_but_messages, carries, Event};
 use crate::own::Own;
 use crate::state::{Parameters, State, STATES};
 use crate::step::step;
@@ -20,12 +20,12 @@ const OWN: Own = Own {
 fn contexts() -> Vec<Context> {
     let mut all = Vec::new();
     for state in STATES {
-        for number in 0..=255u8 {
+        for number in 0..512 {
             for transaction_value in [0, 5, 7] {
                 let plain = Context {
                     state,
-                    parameters: Parameters::from_number(number >> 4),
-                    timers: RunningTimers::from_number(number & 15),
+                    parameters: Parameters::from_number((number >> 5) as u8),
+                    timers: RunningTimers::from_number((number & 31) as u8),
                     transaction_value,
                     reference: [0; 4],
                     remembered: None,
@@ -43,9 +43,10 @@ fn contexts() -> Vec<Context> {
 
 #[test]
 fn fit_contexts_are_counted() {
-    // By hand, of 16 rows and 16 sets of timers: U0 1 * 1 (value 0 alone);
-    // U0.p 16 * 1; U1 16 * 2; U2 16 * 1; U3 4 * 1; U4 4 * 1; U6 4 * 2. In U5 the
-    // first table has 16 * 2 with nothing remembered, the second 16 * 1 with
+    // By hand, of 16 rows and 32 sets of timers: U0 1 * 1 (value 0 alone);
+    // U0.p 16 * 1; U1 16 * 2; U2 16 * 1; U3 4 * 1, without a timer in the first
+    // two tables and with T_pres in the third; U4 4 * 1; U6 4 * 2. In U5 the
+    // first table has 16 * 2 with nothing remembered, the others 16 * 1 with
     // one of two states remembered.
     let expected = [1, 16, 32, 16, 4, 4, 32, 8];
     let contexts = contexts();
@@ -62,9 +63,29 @@ fn fit_contexts_are_counted() {
 }
 
 #[test]
-fn the_tables_part_in_u5_alone() {
+fn the_third_table_parts_from_the_second_in_u3_alone() {
     for context in contexts() {
-        let [first, second] = TABLES.map(|table| context.is_fit(table));
+        let [_, second, third] = TABLES.map(|table| context.is_fit(table));
+        if context.state != State::U3 {
+            assert_eq!(second, third);
+            // In no table T_pres runs elsewhere.
+            assert!(!third || context.timers.number() < 16);
+            continue;
+        }
+        // Without ORIG and COMM the parameters are a number under 4.
+        let others_fit = context.transaction_value <= 6
+            && context.parameters.number() < 4
+            && context.remembered.is_none();
+        let timers = context.timers.number();
+        assert_eq!(second, others_fit && timers == 0);
+        assert_eq!(third, others_fit && timers == 16);
+    }
+}
+
+#[test]
+fn the_first_two_tables_part_in_u5_alone() {
+    for context in contexts() {
+        let [first, second, _] = TABLES.map(|table| context.is_fit(table));
         if context.state != State::U5 {
             assert_eq!(first, second);
             assert!(!first || context.remembered.is_none());
@@ -99,10 +120,25 @@ fn u0_is_cleared_or_not_fit() {
 fn versions() {
     assert_eq!(Table::of_version(1), Some(Table::First));
     assert_eq!(Table::of_version(2), Some(Table::Second));
-    for version in [0, 3, 4, 15, 16, 17, 129, 4_294_967_295] {
+    assert_eq!(Table::of_version(3), Some(Table::Third));
+    for version in [0, 4, 5, 15, 16, 17, 129, 131, 4_294_967_295] {
         assert_eq!(Table::of_version(version), None);
     }
-    assert_eq!(Table::NEWEST, Table::Second);
+    assert_eq!(Table::NEWEST, Table::Third);
+}
+
+#[test]
+fn event_19_belongs_to_the_third_table() {
+    for table in TABLES {
+        let has_it = table == Table::Third;
+        assert_eq!(carries(table, 19).is_some(), has_it);
+        assert_eq!(all_but_messages(table).contains(&19), has_it);
+        assert!(all_but_messages(table).starts_with(&[1, 2, 3]));
+        assert_eq!(all_but_messages(table).len(), 17 + usize::from(has_it));
+        for number in [0, 20, 4_294_967_295] {
+            assert_eq!(carries(table, number), None);
+        }
+    }
 }
 
 #[test]
@@ -118,7 +154,7 @@ fn every_step_keeps_the_context_fit() {
     }
     for table in TABLES {
         for context in contexts().iter().filter(|context| context.is_fit(table)) {
-            for number in 1..=17 {
+            for number in all_but_messages(table) {
                 let event = Event::call(number, 6, [1, 2, 3, 4]);
                 let outcome = step(table, context, &OWN, 255, &event);
                 assert!(outcome.context.is_fit(table) && [0, 3].contains(&outcome.answer));

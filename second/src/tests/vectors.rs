@@ -79,7 +79,7 @@ fn every_pair_without_a_row_is_there() {
         .filter(|line| answer(line.as_bytes()).starts_with("3 "))
         .collect();
     for state in crate::state::STATES {
-        for event in 1..=17 {
+        for event in (1..=17).chain([19]) {
             let has_row = Table::NEWEST
                 .rows()
                 .any(|row| row.states.contains(&state) && row.trigger == Trigger::Event(event));
@@ -122,32 +122,53 @@ fn every_reason_is_there_where_it_can_be() {
     assert_eq!(ignored(), possible);
 }
 
-#[test]
-fn logs_under_both_numbers_are_there() {
+/// Of the logs that stand behind all these versions with the same entries: by
+/// which of them they are accepted, with what the first one answers.
+fn accepted_under(versions: [u32; 2]) -> BTreeSet<(bool, bool, char)> {
     let answers: HashMap<String, String> = lines("judge")
         .into_iter()
         .map(|line| (line.clone(), answer(line.as_bytes())))
         .collect();
-    // The same entries behind 1 and behind 2: accepted by both, by one, by none.
+    let [one, other] = versions.map(|version| format!(" 29f1 {version:02x}"));
     let mut accepted = BTreeSet::new();
     for (line, first) in &answers {
-        if let Some((head, entries)) = line.split_once(" 29f1 01") {
-            let other = format!("{head} 29f1 02{entries}");
-            if let Some(second) = answers.get(&other) {
-                accepted.insert((first.starts_with("0 "), second.starts_with("0 ")));
+        if let Some((head, entries)) = line.split_once(&one) {
+            if let Some(second) = answers.get(&format!("{head}{other}{entries}")) {
+                let number = first.chars().next().expect("an answer");
+                accepted.insert((first.starts_with("0 "), second.starts_with("0 "), number));
             }
         }
     }
-    assert_eq!(accepted.len(), 4);
+    accepted
 }
 
+#[test]
+fn logs_under_two_numbers_are_there() {
+    // Accepted by both, by one, by none; what version 1 or 2 refuses and version
+    // 3 accepts is unreadable there, for its event 19, or unexplained.
+    let all = [(true, true, '0'), (true, false, '0'), (false, false, '9')];
+    for versions in [[1, 2], [1, 3], [2, 3]] {
+        let accepted = accepted_under(versions);
+        assert!(all.iter().all(|class| accepted.contains(class)));
+    }
+    assert!(accepted_under([1, 2]).contains(&(false, true, '9')));
+    assert!(accepted_under([1, 3]).contains(&(false, true, '8')));
+    assert!(accepted_under([1, 3]).contains(&(false, true, '9')));
+    assert!(accepted_under([2, 3]).contains(&(false, true, '8')));
+    // Version 3 has the rows of version 2, and one timer more: it explains
+    // nothing that version 2 can read and does not explain.
+    assert!(!accepted_under([2, 3]).contains(&(false, true, '9')));
+}
+
+/// A person can still look through a set. The longest, `judge`, has logs of three
+/// versions, each with its own limits and claims.
 #[test]
 fn sizes() {
     let mut bytes = 0;
     for word in WORDS {
         let lines = lines(word);
         assert!(
-            (300..=4_500).contains(&lines.len()),
+            (300..=6_500).contains(&lines.len()),
             "{word} {}",
             lines.len()
         );

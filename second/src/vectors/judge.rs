@@ -1,6 +1,7 @@
 //! The fixed set for `judge`: the cases of document 01, true runs through every
 //! row of its step table, and the same with each claim changed or the end cut.
-//! These are logs of version 1; `judge_versions` has those of version 2.
+//! These are logs of version 1; `judge_versions` has those of version 2,
+//! `judge_invitations` those of version 3.
 
 use crate::commands::{judge, Identity};
 use crate::event::Event;
@@ -8,6 +9,7 @@ use crate::generate::log::bytes;
 use crate::generate::walk::Walk;
 use crate::log::entry::Entry;
 use crate::tables::Table;
+use crate::timer::Chosen;
 
 /// The settings of every log here but those about settings.
 pub fn own() -> Identity {
@@ -25,7 +27,11 @@ pub type Line = (u64, u32, &'static [u8]);
 /// A true run of a script by a table. What it claims is what the step gives;
 /// whether its times are allowed is the script's own affair.
 pub fn run(table: Table, script: &[Line]) -> Vec<Entry> {
-    let mut walk = Walk::begin(table, own(), 12_000);
+    let chosen = Chosen {
+        joining: 12_000,
+        invitation: 60_000,
+    };
+    let mut walk = Walk::begin(table, own(), chosen);
     for &(delta, number, octets) in script {
         let event = match number {
             1 | 2 | 10 => Event::call(number, 5, [0x0A, 0x0B, 0x0C, 0x0D]),

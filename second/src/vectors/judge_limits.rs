@@ -83,7 +83,11 @@ fn log(table: Table, numbers: [u32; 7], data: &[u8], reply: usize) -> Vec<u8> {
 
 /// Each number at its limit, over it, and as great as numbers are.
 fn fields(lines: &mut Vec<String>, table: Table) {
-    let greatest = [86_400_000, 18, 3, 7, 15, 63, 255];
+    let event = match table {
+        Table::First | Table::Second => 18,
+        Table::Third => 19,
+    };
+    let greatest = [86_400_000, event, 3, 7, 15, 63, 255];
     for (place, limit) in greatest.into_iter().enumerate() {
         for number in [
             0,

@@ -1,19 +1,21 @@
 //! The fixed set for `judge`, fourth part: logs of version 2, in which a rejected
-//! termination leads back (document 02, A2), and logs of either version under
-//! the number of the other.
+//! termination leads back (document 02, A2), and logs of versions 1 and 2 under
+//! each other's number.
 
 use super::judge::{claims, push, run, true_log, Line, SCRIPTS};
 use super::judge::{CONNECT, GET_STATUS, REJECT, SET_PARAMETER, TERMINATION};
 use super::judge_limits::entries;
 use crate::generate::log::bytes;
-use crate::tables::{Table, TABLES};
+use crate::tables::Table;
 
 const NONE: &[u8] = &[];
 const ALL_PARAMETERS: &[u8] = &[0xD1, 0x3A, 0x0F];
 const REJECT_CUT: &[u8] = &[0xD1, 0x36];
+/// The tables that part at a rejected termination.
+const PARTED: [Table; 2] = [Table::First, Table::Second];
 
-/// Scripts about a rejected termination. Both tables have a run of each.
-const RETURNS: [&[Line]; 6] = [
+/// Scripts about a rejected termination. Every table has a run of each.
+pub const RETURNS: [&[Line]; 6] = [
     // From U2 and back, asked again, and nobody answers.
     &[
         (0, 1, NONE),
@@ -80,7 +82,7 @@ const RETURNS: [&[Line]; 6] = [
 
 pub fn all(lines: &mut Vec<String>) {
     versions(lines);
-    for table in TABLES {
+    for table in PARTED {
         for script in RETURNS {
             claims_of(lines, table, script);
         }
@@ -122,7 +124,7 @@ fn claims_of(lines: &mut Vec<String>, table: Table, script: &[Line]) {
 /// What one table gives, as a log of the other, whole and entry by entry: there
 /// is a first entry at which they part, or none.
 fn under_the_other_number(lines: &mut Vec<String>, script: &[Line]) {
-    let [first, second] = TABLES.map(|table| run(table, script));
+    let [first, second] = PARTED.map(|table| run(table, script));
     for length in 1..=script.len() {
         push(lines, &bytes(Table::Second, &first[..length]));
         push(lines, &bytes(Table::First, &second[..length]));

@@ -21,7 +21,7 @@ const GOOD: [(&str, &str); 6] = [
 ];
 
 /// What a token is replaced with. Some of these are good in some places.
-const INSTEAD: [&str; 14] = [
+const INSTEAD: [&str; 15] = [
     "",
     "-",
     "00",
@@ -30,6 +30,7 @@ const INSTEAD: [&str; 14] = [
     "+1",
     "256",
     "16",
+    "32",
     "4294967296",
     "99999999999999999999",
     "AB",

@@ -3,6 +3,7 @@
 //! standard, and its cases.
 
 pub mod judge;
+pub mod judge_invitations;
 pub mod judge_limits;
 pub mod judge_times;
 pub mod judge_versions;
@@ -13,6 +14,7 @@ pub mod read_optional;
 pub mod record;
 pub mod settings;
 pub mod step;
+pub mod step_invitations;
 pub mod step_limits;
 pub mod step_reasons;
 pub mod step_received;
@@ -45,6 +47,7 @@ pub fn lines(word: &str) -> Vec<String> {
             step_received::all(&mut lines);
             step_reasons::all(&mut lines);
             step_returns::all(&mut lines);
+            step_invitations::all(&mut lines);
         }
         "settings" => settings::all(&mut lines),
         "judge" => {
@@ -52,6 +55,7 @@ pub fn lines(word: &str) -> Vec<String> {
             judge_limits::all(&mut lines);
             judge_times::all(&mut lines);
             judge_versions::all(&mut lines);
+            judge_invitations::all(&mut lines);
         }
         _ => record::all(&mut lines),
     }

@@ -13,6 +13,7 @@ pub fn all(lines: &mut Vec<String>) {
     events(lines);
     runs(lines);
     claims(lines);
+    invitations(lines);
     limits_together(lines);
     longest(lines);
 }
@@ -35,10 +36,11 @@ fn room(lines: &mut Vec<String>) {
     for used in [0, 1, 20, 21, 255, 256, 65_536, 65_537, 4_294_967_295u32] {
         lines.push(format!("record {} {used} 0 {JOIN}", buffer(20)));
     }
-    // What is used is not looked at: either version, a wrong one, and rubbish.
+    // What is used is not looked at: each version, a wrong one, and rubbish.
     lines.push(format!("record 01ffffffffffffffffff 1 0 {JOIN}"));
     lines.push(format!("record 02ffffffffffffffffff 1 0 {JOIN}"));
     lines.push(format!("record 03ffffffffffffffffff 1 0 {JOIN}"));
+    lines.push(format!("record 04ffffffffffffffffff 1 0 {JOIN}"));
     lines.push(format!("record 808080ffffffffffffff 3 0 {JOIN}"));
 }
 
@@ -149,12 +151,26 @@ fn claims(lines: &mut Vec<String>) {
     ));
 }
 
+/// Event 19, which carries nothing, at the beginning of a log and in it, with
+/// exact room and one byte less; 20 beside it.
+fn invitations(lines: &mut Vec<String>) {
+    for event in [19, 20] {
+        for (length, used) in [(7, 0), (8, 0), (9, 0), (7, 1), (8, 1), (9, 1)] {
+            lines.push(format!(
+                "record {} {used} 0 {event} 7 0a0b0c0d 2 d139 0 0 0 0 -",
+                buffer(length)
+            ));
+        }
+    }
+}
+
 /// 4 comes before 11: one field over its limit in a buffer without room.
 fn limits_together(lines: &mut Vec<String>) {
     for wrong in [
         "86400001 3 0 00000000 0 - 3 0 0 0 -",
         "0 0 0 00000000 0 - 3 0 0 0 -",
-        "0 19 0 00000000 0 - 3 0 0 0 -",
+        "0 19 0 00000000 0 - 3 0 0 0 -", // the last number that is an event: 11
+        "0 20 0 00000000 0 - 3 0 0 0 -",
         "0 1 7 00000000 0 - 3 0 0 0 -",
         "0 18 0 00000000 2 - 3 0 0 0 -",
         "0 3 0 00000000 0 - 4 0 0 0 -",

@@ -3,11 +3,12 @@
 
 use crate::commands::settings;
 
-const GOOD: [&str; 4] = [
+const GOOD: [&str; 5] = [
     "cksn=3\n",
     "classmark=33aBcD\n",
     "identity=29f1\n",
     "conn_req_ms=12000\n",
+    "present_ms=60000\n",
 ];
 
 pub fn all(lines: &mut Vec<String>) {
@@ -24,40 +25,50 @@ fn push(lines: &mut Vec<String>, file: &str) {
     lines.push(settings(file.as_bytes()));
 }
 
-/// All 24 orders.
+/// All 120 orders.
 fn orders(lines: &mut Vec<String>) {
-    for code in 0..256 {
-        let order = [code & 3, code >> 2 & 3, code >> 4 & 3, code >> 6];
-        if (0..4).all(|place| order.contains(&place)) {
-            let file: String = order.iter().map(|&place| GOOD[place]).collect();
-            push(lines, &file);
-        }
+    let mut begun = vec![Vec::new()];
+    for _ in GOOD {
+        let longer = begun.iter().flat_map(|order: &Vec<&str>| {
+            let left = GOOD.into_iter().filter(|line| !order.contains(line));
+            left.map(|line| [&order[..], &[line]].concat())
+        });
+        begun = longer.collect();
+    }
+    for order in begun {
+        push(lines, &order.concat());
     }
 }
 
-/// All 16 sets of lines, forwards and backwards.
+/// All 32 sets of lines, forwards, backwards and turned about. Among them are the
+/// files of four lines that were whole before the fifth was required.
 fn missing(lines: &mut Vec<String>) {
-    for set in 0..16 {
-        let chosen: Vec<&str> = (0..4)
+    for set in 0..32 {
+        let chosen: Vec<&str> = (0..5)
             .filter(|place| set >> place & 1 == 1)
             .map(|place| GOOD[place])
             .collect();
         push(lines, &chosen.concat());
         let backwards: Vec<&str> = chosen.iter().rev().copied().collect();
         push(lines, &backwards.concat());
+        for turn in 1..chosen.len() {
+            let mut turned = chosen.clone();
+            turned.rotate_left(turn);
+            push(lines, &turned.concat());
+        }
     }
 }
 
 /// Each line repeated at each place, once more, and in place of another.
 fn repeated(lines: &mut Vec<String>) {
     for line in GOOD {
-        for place in 0..=4 {
+        for place in 0..=5 {
             let mut file = GOOD.to_vec();
             file.insert(place, line);
             push(lines, &file.concat());
         }
         push(lines, &format!("{}{line}{line}", GOOD.concat()));
-        for place in 0..4 {
+        for place in 0..5 {
             let mut file = GOOD.to_vec();
             file[place] = line;
             push(lines, &file.concat());
@@ -67,10 +78,22 @@ fn repeated(lines: &mut Vec<String>) {
     push(lines, &format!("{}cksn=4\n", GOOD.concat()));
     push(lines, &format!("{}cksn=9\n", GOOD.concat()));
     push(lines, &format!("cksn=9\n{}", GOOD.concat()));
+    for value in [1_000, 999, 600_000, 600_001, 60_000] {
+        let again = format!("present_ms={value}\n");
+        push(lines, &format!("{}{again}", GOOD.concat()));
+        push(lines, &format!("{again}{}", GOOD.concat()));
+        // In place of another, so that five lines hold four names.
+        for place in 0..4 {
+            let mut file = GOOD.to_vec();
+            file[place] = &again;
+            push(lines, &file.concat());
+        }
+    }
     push(lines, &GOOD.concat().repeat(2));
 }
 
-/// Last lines without LF, empty lines, CR, and what stands behind four lines.
+/// Last lines without LF, empty lines, CR, and what stands behind five lines and
+/// behind four.
 fn ends(lines: &mut Vec<String>) {
     let whole = GOOD.concat();
     for extra in [
@@ -78,6 +101,7 @@ fn ends(lines: &mut Vec<String>) {
     ] {
         push(lines, &format!("{whole}{extra}"));
         push(lines, &format!("{extra}{whole}"));
+        push(lines, &format!("{}{extra}", GOOD[..4].concat()));
     }
     push(lines, &whole.replace('\n', "\r\n"));
     push(lines, &whole.replace('\n', "\r"));
@@ -86,7 +110,7 @@ fn ends(lines: &mut Vec<String>) {
     push(lines, &whole.to_uppercase());
     for (place, alone) in GOOD.into_iter().enumerate() {
         let mut file = GOOD.to_vec();
-        file.swap(place, 3);
+        file.swap(place, 4);
         let text = file.concat();
         push(lines, &text[..text.len() - 1]);
         push(lines, alone);
@@ -95,7 +119,7 @@ fn ends(lines: &mut Vec<String>) {
 }
 
 /// Values on both sides of each limit.
-const VALUES: [(&str, &[&str]); 4] = [
+const VALUES: [(&str, &[&str]); 5] = [
     (
         "cksn=",
         &[
@@ -174,6 +198,64 @@ const VALUES: [(&str, &[&str]); 4] = [
             "1200a",
             "1200:",
             "1200/",
+            "1000",
+            "600000",
+        ],
+    ),
+    (
+        "present_ms=",
+        &[
+            "1000",
+            "1001",
+            "9999",
+            "10000",
+            "30000",
+            "30001",
+            "99999",
+            "100000",
+            "599999",
+            "600000",
+            "999",
+            "998",
+            "600001",
+            "600010",
+            "601000",
+            "610000",
+            "700000",
+            "999999",
+            "1000000",
+            "6000000",
+            "0",
+            "1",
+            "00000",
+            "01000",
+            "001000",
+            "0001000",
+            "060000",
+            "0600000",
+            "0999",
+            "",
+            "1e3",
+            "+1000",
+            "-1000",
+            "1000 ",
+            " 1000",
+            "1,000",
+            "1000.0",
+            "0x3e8",
+            "66536",
+            "65536",
+            "131072",
+            "4294968296",
+            "4295027296",
+            "18446744073709552616",
+            "18446744073709611616",
+            "100a",
+            "100:",
+            "100/",
+            "a000",
+            ":000",
+            "/000",
         ],
     ),
 ];
@@ -211,16 +293,25 @@ fn bytes(lines: &mut Vec<String>) {
     }
 }
 
-/// All 256 bytes in the place of the key number, a hexadecimal digit, a decimal
-/// digit and a line's end.
+/// All 256 bytes in the place of the key number, a hexadecimal digit, decimal
+/// digits and a line's end.
 fn single_places(lines: &mut Vec<String>) {
     let whole = GOOD.concat().into_bytes();
-    // cksn=? is byte 5; its LF 6; classmark's first digit 17; the last digit of conn_req_ms.
-    for place in [5, 6, 17, whole.len() - 2] {
-        for byte in 0..=255 {
-            let mut file = whole.clone();
-            file[place] = byte;
-            lines.push(settings(&file));
-        }
+    // cksn=? is byte 5; its LF 6; classmark's first digit 17; the last digit of
+    // conn_req_ms stands before its LF and the last line, that of present_ms before the last LF.
+    let conn_req = whole.len() - GOOD[4].len() - 2;
+    for place in [5, 6, 17, conn_req, whole.len() - 2] {
+        every_byte(lines, &whole, place);
+    }
+    // The first digit of 200000: 1 to 6 are within the bounds.
+    let six_digits = format!("{}present_ms=200000\n", GOOD[..4].concat());
+    every_byte(lines, six_digits.as_bytes(), six_digits.len() - 7);
+}
+
+fn every_byte(lines: &mut Vec<String>, whole: &[u8], place: usize) {
+    for byte in 0..=255 {
+        let mut file = whole.to_vec();
+        file[place] = byte;
+        lines.push(settings(&file));
     }
 }

@@ -16,7 +16,7 @@ pub const CONTEXTS: [(&str, u8); 24] = [
     ("2 12 8 5 0a0b0c0d 0", 1), // U1 after IMMEDIATE SETUP
     ("2 12 0 5 0a0b0c0d 0", 1), // U1 after SETUP
     ("3 15 0 5 0a0b0c0d 0", 1), // U2
-    ("4 0 0 5 0a0b0c0d 0", 0),  // U3
+    ("4 0 16 5 0a0b0c0d 0", 0), // U3
     ("5 0 2 5 0a0b0c0d 0", 0),  // U4
     ("6 15 4 5 0a0b0c0d 3", 1), // U5, asked from U2
     ("6 15 4 5 0a0b0c0d 2", 1), // U5, asked from U1
@@ -30,7 +30,7 @@ pub const CONTEXTS: [(&str, u8); 24] = [
     ("3 7 0 5 0a0b0c0d 0", 1),  // U2, ORIG false
     ("3 11 0 5 0a0b0c0d 0", 1), // U2, COMM false
     ("3 0 0 5 0a0b0c0d 0", 1),  // U2, all false
-    ("4 3 0 5 0a0b0c0d 0", 0),  // U3, both attached
+    ("4 3 16 5 0a0b0c0d 0", 0), // U3, both attached
     ("5 1 2 5 0a0b0c0d 0", 0),  // U4, uplink attached
     ("6 7 4 5 0a0b0c0d 3", 1),  // U5, ORIG false
     ("6 8 4 5 0a0b0c0d 2", 1),  // U5, COMM false
@@ -78,7 +78,7 @@ pub fn all(lines: &mut Vec<String>) {
 /// Every event in every context; 18 here with TERMINATION for this call.
 fn events(lines: &mut Vec<String>) {
     for (context, flag) in CONTEXTS {
-        for event in 1..=17 {
+        for event in (1..=17).chain([19]) {
             lines.push(step(context, &format!("{event} 4 0e0f1011 0 -")));
         }
         let termination = addressed(&[0, 0x34, 0x01, 0x90], flag, value_of(context));

@@ -18,6 +18,7 @@ pub fn all(lines: &mut Vec<String>) {
 pub fn asked_timers(state: State) -> u8 {
     match state {
         State::U0p => 8,
+        State::U3 => 16,
         State::U4 => 2,
         State::U5 => 4,
         _ => 0,
@@ -41,11 +42,11 @@ fn fitness(lines: &mut Vec<String>) {
         let asked = asked_timers(state);
         let from = if state == State::U5 { 3 } else { 0 };
         let (value, reference) = value_and_reference(state);
-        for four in 0..=15 {
-            for (parameters, timers) in [(four, asked), (row, four)] {
-                let context = format!("{number} {parameters} {timers} {value} {reference} {from}");
-                lines.push(step(&context, "9 0 00000000 0 -"));
-            }
+        let parameters = (0..=15).map(|parameters| (parameters, asked));
+        let timers = (0..=31).map(|timers| (row, timers));
+        for (parameters, timers) in parameters.chain(timers) {
+            let context = format!("{number} {parameters} {timers} {value} {reference} {from}");
+            lines.push(step(&context, "9 0 00000000 0 -"));
         }
         for value in [0, 1, 5, 6, 7, 8, 127, 128, 255] {
             let context = format!("{number} {row} {asked} {value} {reference} {from}");
@@ -58,6 +59,8 @@ fn fitness(lines: &mut Vec<String>) {
             "0 0 0 00000000 0",
             "15 15 255 ffffffff 255",
             "12 8 5 0a0b0c0d 2",
+            "0 16 5 0a0b0c0d 0",
+            "0 31 5 0a0b0c0d 0",
         ] {
             lines.push(step(&format!("{number} {rest}"), "5 0 00000000 0 -"));
         }
@@ -76,6 +79,7 @@ fn cleared(lines: &mut Vec<String>) {
         "0 0 4 0 00000000 0",
         "0 0 2 0 00000000 0",
         "0 0 1 0 00000000 0",
+        "0 0 16 0 00000000 0",
         "0 0 0 1 00000000 0",
         "0 0 0 6 00000000 0",
         "0 0 0 0 01000000 0",
@@ -128,7 +132,7 @@ fn arguments(lines: &mut Vec<String>) {
             lines.push(step(context, &format!("18 0 00000000 {mode} -")));
         }
     }
-    for event in 0..=19 {
+    for event in 0..=20 {
         for (context, _) in [CONTEXTS[0], CONTEXTS[4]] {
             lines.push(step(context, &format!("{event} 7 00000000 2 -")));
             lines.push(step(context, &format!("{event} 255 ffffffff 255 d1")));
@@ -150,7 +154,7 @@ fn message_lengths(lines: &mut Vec<String>) {
         ));
     }
     let long = hexadecimal(&[0xD1; 252]);
-    for event in 0..=19 {
+    for event in 0..=20 {
         lines.push(step(
             "3 15 0 5 0a0b0c0d 0",
             &format!("{event} 0 00000000 0 {long}"),
@@ -173,7 +177,7 @@ fn order_of_tests(lines: &mut Vec<String>) {
         let own = if wrong(4) { "8 3359a2 -" } else { OWN };
         let octets = hexadecimal(&vec![0x51; length]);
         lines.push(format!(
-            "step 4 {parameters} 0 5 0a0b0c0d 0 {own} {buffer_length} 18 0 00000000 {mode} {octets}"
+            "step 4 {parameters} 16 5 0a0b0c0d 0 {own} {buffer_length} 18 0 00000000 {mode} {octets}"
         ));
     }
 }

@@ -15,11 +15,11 @@ const HEARING: [(&str, u8); 15] = [
     ("2 12 0 5 0a0b0c0d 0", 1),
     ("3 11 0 5 0a0b0c0d 0", 1), // U2, COMM false
     ("3 15 0 5 0a0b0c0d 0", 1),
-    ("3 7 0 0 0a0b0c0d 0", 1), // ORIG false, value 0
-    ("4 0 0 5 0a0b0c0d 0", 0), // U3
-    ("4 0 0 6 0a0b0c0d 0", 0), // value 6
-    ("5 0 2 5 0a0b0c0d 0", 0), // U4
-    ("6 8 4 5 0a0b0c0d 3", 1), // U5, COMM false
+    ("3 7 0 0 0a0b0c0d 0", 1),  // ORIG false, value 0
+    ("4 0 16 5 0a0b0c0d 0", 0), // U3
+    ("4 0 16 6 0a0b0c0d 0", 0), // value 6
+    ("5 0 2 5 0a0b0c0d 0", 0),  // U4
+    ("6 8 4 5 0a0b0c0d 3", 1),  // U5, COMM false
     ("6 15 4 5 0a0b0c0d 2", 1),
     ("7 2 0 5 0a0b0c0d 0", 0), // U6
     ("7 2 1 0 0a0b0c0d 0", 0), // value 0

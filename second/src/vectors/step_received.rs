@@ -8,7 +8,7 @@ use crate::probe::tokens::hexadecimal;
 const U1: &str = "2 12 8 5 0a0b0c0d 0";
 const U2: &str = "3 15 0 5 0a0b0c0d 0";
 const U2_SILENT: &str = "3 11 0 5 0a0b0c0d 0";
-const U3: &str = "4 0 0 5 0a0b0c0d 0";
+const U3: &str = "4 0 16 5 0a0b0c0d 0";
 const U5: &str = "6 15 4 5 0a0b0c0d 3";
 
 pub fn all(lines: &mut Vec<String>) {

@@ -35,7 +35,7 @@ fn remembered(lines: &mut Vec<String>) {
 /// in `step_limits`. What document 01 leaves after TERMINATION REJECT is among them.
 fn timers_in_u5(lines: &mut Vec<String>) {
     for from in [0, 2] {
-        for timers in 0..=15 {
+        for timers in 0..=31 {
             let context = format!("6 15 {timers} 5 0a0b0c0d {from}");
             lines.push(step(&context, "15 0 00000000 0 -"));
         }

@@ -21,4 +21,4 @@ write-spec =
     let timers = noted .before in
     let parameters = timers .before in
     let state = parameters .before in
-    rw (noted .remembered-number .ensures, timers .four-number2 .ensures, parameters .four-number .ensures, state .state-number .ensures)))
+    rw (noted .remembered-number .ensures, timers .timers-number .ensures, parameters .four-number .ensures, state .state-number .ensures)))

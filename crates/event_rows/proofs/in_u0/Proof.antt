@@ -1,4 +1,5 @@
 -- `in_u0` meets its contract: each arm is the table's row, and the numbers without an arm have none.
+use borrow.Author.Needs.{needs}
 use Rattle.codes.specs.declared.state.State.the-variants.{U0}
 use Rattle.octets.proofs.Rows.{no-row}
 use Rattle.transitions.specs.declared.Decision.the-variants.{NoStep}
@@ -11,8 +12,9 @@ unfolding stepTable happenedIn
 in-u0-spec =
     tie.close
     (tie.spec
+    (λ c κs. search needs)
     (λ c. rw (c .match .keys1))
     (λ c. rw (c .match .keys2))
-    (λ c. rw (c .match .keys3))
+    (λ c. rw (c .before .match .keys3) (c .notified .ensures))
     (λ c. rw (c .match .keys4))
     (λ c. no-row (c .before .args .number) NoStep (eventsIn U0 (c .before .args .context) (stepTable (c .before .args .table))) (c .match .rest .0)))

@@ -11,4 +11,4 @@ timers-fit-u5-spec =
     tie.close
     (tie.spec
     (λ c κs. search needs)
-    (λ c. rw (c .before .before .before .term-fits .ensures)))
+    (λ c. rw (c .before .before .before .before .term-fits .ensures)))

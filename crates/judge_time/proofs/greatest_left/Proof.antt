@@ -1,5 +1,5 @@
 -- `greatest_left` meets its contract: the earlier of the two where the entry is the timer's expiry.
-use borrow.Author.Tests.{ne-eqb, not-true, not-false}
+use borrow.Author.Tests.{not-true, not-false}
 use native.Mathlib.Omega.{arith}
 use Rattle.judge_time.specs.Clock.{greatestLeft}
 use Rattle.judge_time.proofs.greatest_left.Statement.{statement}
@@ -10,7 +10,6 @@ unfolding greatestLeft
 greatest-left-spec =
     tie.close
     (tie.spec
-    (λ c. rw (ne-eqb _ _ (c .if1 .taken)))
-    (λ c. rw (c .before .if1 .left, not-true (c .before .before .args .ends) (c .if2 .taken)))
-    (λ c. rw (c .before .before .if1 .left, not-false (c .before .before .before .args .ends) (c .before .if2 .left)) (omega arith))
-    (λ c. rw (c .before .before .if1 .left, not-false (c .before .before .before .args .ends) (c .before .if2 .left)) (omega arith)))
+    (λ c. rw (not-true (c .before .args .ends) (c .if1 .taken)))
+    (λ c. rw (not-false (c .before .before .args .ends) (c .before .if1 .left)) (omega arith))
+    (λ c. rw (not-false (c .before .before .args .ends) (c .before .if1 .left)) (omega arith)))

@@ -1,10 +1,10 @@
--- `tick` meets its contract: the clock is astray, no timer runs, the rule of a timer whose length is known is broken, or what is left decides.
+-- `tick` meets its contract: the clock is astray, no timer runs, or one does.
 use mathlib.Core.Path.{_≡_, sym, _∙_}
 use mathlib.Core.Bool.{false}
 use native.Mathlib.Omega.{arith}
 use borrow.Author.Needs.{needs}
 use Rattle.judge_time.specs.Clock.{astray}
-use Rattle.judge_time.proofs.Ticking.{timely, goes-astray, none-runs, is-late, goes-on}
+use Rattle.judge_time.proofs.Ticking.{timely, goes-astray, none-runs, one-runs}
 use Rattle.judge_time.proofs.tick.Statement.{statement}
 use Rattle.judge_time.proofs.tick.Tie as tie
 
@@ -24,47 +24,26 @@ add-now c = omega (arith, timely _ _ (on-time (c .before)) .0)
 started-after-requires : tie.Need-started-after-requires
 started-after-requires c κs = search needs
 
-left-with-requires : tie.Need-left-with-requires
-left-with-requires c κs = search needs
-
 returns-2 : tie.Need-returns-2
 returns-2 c =
-    let since = c .before .before in
-    none-runs _ _ _ _ _ (on-time (since .before .before)) _ (since .started-after .ensures) _ (c .before .if2 .taken) (c .left-with .ensures)
+    let since = c .before .before .before in
+    none-runs _ _ _ _ _ (on-time (since .before .before)) _ (since .started-after .ensures) (c .if2 .taken)
 
 sub-age : tie.Need-sub-age
-sub-age c = omega (arith, timely _ _ (on-time (c .before .before .before .before)) .1)
+sub-age c = omega (arith, timely _ _ (on-time (c .before .before .before .before .before .before)) .1)
 
 expired-timer-requires : tie.Need-expired-timer-requires
 expired-timer-requires c κs = search needs
 
-is-untimely-requires : tie.Need-is-untimely-requires
-is-untimely-requires c κs = search needs
+while-running-requires : tie.Need-while-running-requires
+while-running-requires c κs = search needs
 
 returns-3 : tie.Need-returns-3
 returns-3 c =
-    let tested = c .before in
-    let ended = tested .before in
-    is-late _ _ _ _ _ (on-time (ended .before .before .before .before .before)) _ (ended .expired-timer .ensures) (sym (tested .is-untimely .ensures) ∙ c .if3 .taken)
-
-least-left-requires : tie.Need-least-left-requires
-least-left-requires c κs = search needs
-
-greatest-left-requires : tie.Need-greatest-left-requires
-greatest-left-requires c κs = search needs
-
-left-with-requires-2 : tie.Need-left-with-requires-2
-left-with-requires-2 c κs = search needs
-
-returns-4 : tie.Need-returns-4
-returns-4 c =
-    let most = c .before in
-    let least = most .before in
-    let passed = least .before in
-    let ended = passed .before .before in
-    let since = ended .before .before .before in
-    goes-on _ _ _ _ _ (on-time (since .before .before)) _ (since .started-after .ensures) _ _ (ended .expired-timer .ensures)
-    (sym (passed .before .is-untimely .ensures) ∙ passed .if3 .left) _ _ (least .least-left .ensures) (most .greatest-left .ensures) (c .left-with2 .ensures)
+    let ended = c .before in
+    let running = ended .before .before in
+    let since = running .before .before .before in
+    one-runs _ _ _ _ _ (on-time (since .before .before)) _ (since .started-after .ensures) (running .if2 .left) _ (ended .expired-timer .ensures) _ (c .while-running .ensures)
 
 pub tick-spec : {M : Type 1} → statement M
 tick-spec =
@@ -74,13 +53,8 @@ tick-spec =
     returns
     add-now
     started-after-requires
-    left-with-requires
     returns-2
     sub-age
     expired-timer-requires
-    is-untimely-requires
-    returns-3
-    least-left-requires
-    greatest-left-requires
-    left-with-requires-2
-    returns-4)
+    while-running-requires
+    returns-3)

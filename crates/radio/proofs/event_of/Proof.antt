@@ -28,4 +28,6 @@ event-of-spec =
     (λ c. rw (c .match .keys15))
     (λ c. rw (c .match .keys16))
     (λ c. rw (c .match .keys17))
+    (λ c. rw (c .match .keys18))
+    (λ c. rw (c .match .keys19))
     (λ c. no-row (c .before .args .number) NoEvent (events (c .before .args .value) (c .before .args .reference)) (c .match .rest)))

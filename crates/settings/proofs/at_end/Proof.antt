@@ -1,4 +1,6 @@
 -- `settings::at_end` meets its contract: each return is one choice of `endOf`.
+use mathlib.Core.Path.{_≡_}
+use mathlib.Core.Bool.{false, not}
 use borrow.Author.Needs.{needs}
 use Rattle.settings.specs.Settings.{endOf}
 use Rattle.settings.proofs.at_end.Statement.{statement}
@@ -35,11 +37,22 @@ returns-4 c =
     let t = c .before .before .before .before .before in
     rw (t .before .before .if1 .left, t .if2 .left, c .before .before .before .if3 .left, c .before .if4 .taken) (c .refused4 .ensures)
 
+refused-requires-5 : tie.Need-refused-requires-5
+refused-requires-5 c κs = search needs
+
 returns-5 : tie.Need-returns-5
 unfolding endOf
 returns-5 c =
     let t = c .before .before .before .before .before in
-    rw (t .before .before .if1 .left, t .if2 .left, c .before .before .before .if3 .left, c .before .if4 .left)
+    rw (t .before .before .before .before .if1 .left, t .before .before .if2 .left, t .if3 .left, c .before .before .before .if4 .left, c .before .if5 .taken)
+    (c .refused5 .ensures)
+
+returns-6 : tie.Need-returns-6
+unfolding endOf
+returns-6 c =
+    let t = c .before .before .before .before .before in
+    let there : not (t .before .before .before .before .before .before .args .seen .invitation) ≡ false = c .before .if5 .left in
+    rw (t .before .before .before .before .if1 .left, t .before .before .if2 .left, t .if3 .left, c .before .before .before .if4 .left, there)
 
 pub at-end-spec : {M : Type 1} → statement M
 at-end-spec =
@@ -53,4 +66,6 @@ at-end-spec =
     returns-3
     refused-requires-4
     returns-4
-    returns-5)
+    refused-requires-5
+    returns-5
+    returns-6)

@@ -1,55 +1,30 @@
--- `settings_line::with_identity` meets its contract: the value is none, or its name stood before, or it is set.
-use mathlib.Core.Path.{_≡_, ap}
+-- `settings_line::with_identity` meets its contract: the value is none, or is set where its name stands once.
+use mathlib.Core.Path.{sym, ap, _∙_}
 use borrow.Author.Tests.{not-true, not-false}
 use borrow.Author.Needs.{needs}
-use Rattle.settings_values.specs.Digits.{octetsOf}
-use Rattle.settings_line.specs.declared.Fault.the-variants.{BadIdentity}
-use Rattle.settings_line.specs.Line.{Identity, Unreadable, identityOf, turnOf}
+use Rattle.settings_line.specs.Line.{turnOf}
 use Rattle.settings_line.proofs.Values.{identity-none, identity-some, identity-octets, identity-count}
-use Rattle.settings_line.proofs.Turns.{turn-stopped, turn-again, turn-new}
+use Rattle.settings_line.proofs.Turns.{turn-stopped}
 use Rattle.settings_line.proofs.with_identity.Statement.{statement}
 use Rattle.settings_line.proofs.with_identity.Tie as tie
 
--- What the text means where it is no value, and where it is one.
-none : (c : tie.Then1) → identityOf (c .before .before .before .before .args .text .now) ≡ Unreadable BadIdentity
-none c = identity-none _ _ (c .before .before .read-identity .ensures) (not-true _ (c .if1 .taken))
-
-some : (c : tie.Else1) → identityOf (c .before .before .before .before .args .text .now) ≡ Identity (octetsOf (c .before .before .before .before .args .text .now))
-some c = identity-some _ _ (c .before .before .read-identity .ensures) (not-false _ (c .if1 .left))
-
-read-identity-requires : tie.Need-read-identity-requires
-read-identity-requires c κs = search needs
-
-stopped-requires : tie.Need-stopped-requires
-stopped-requires c κs = search needs
-
 returns : tie.Need-returns
 unfolding turnOf
-returns c = turn-stopped _ _ _ _ (c .stopped .ensures) (none (c .before))
-
-stopped-requires-2 : tie.Need-stopped-requires-2
-stopped-requires-2 c κs = search needs
+returns c = turn-stopped _ _ _ _ (c .stopped .ensures) (identity-none _ _ (c .before .before .before .read-identity .ensures) (not-true _ (c .before .if1 .taken)))
 
 returns-2 : tie.Need-returns-2
 unfolding turnOf
 returns-2 c =
-    let t = c .before .before in let seen = t .before .before .before .before .args .seen in
-    turn-again _ _ (ap (turnOf seen) (some t)) (c .before .if2 .taken) (c .stopped2 .ensures)
-
-returns-3 : tie.Need-returns-3
-unfolding turnOf
-returns-3 c =
-    let d = c .before .before in let t = d .before in let seen = t .before .before .before .before .args .seen in
-    let read = t .before .before .read-identity .ensures in let good = not-false _ (t .if1 .left) in
-    rw (identity-octets _ _ read good, identity-count _ _ read good) (turn-new _ _ (ap (turnOf seen) (some t)) (d .if2 .left))
+    let t = c .before .before .before in let read = t .before .before .read-identity .ensures in let good = not-false _ (t .if1 .left) in
+    c .taken-once .ensures
+    ∙ rw (identity-octets _ _ read good, identity-count _ _ read good) (sym (ap (turnOf (t .before .before .before .before .args .seen)) (identity-some _ _ read good)))
 
 pub with-identity-spec : {M : Type 1} → statement M
 with-identity-spec =
     tie.close
     (tie.spec
-    read-identity-requires
-    stopped-requires
+    (λ c κs. search needs)
+    (λ c κs. search needs)
     returns
-    stopped-requires-2
-    returns-2
-    returns-3)
+    (λ c κs. search needs)
+    returns-2)

@@ -1,53 +1,30 @@
--- `settings_line::with_joining` meets its contract: the value is none, or its name stood before, or it is set.
-use mathlib.Core.Path.{_≡_, ap}
+-- `settings_line::with_joining` meets its contract: the value is none, or is set where its name stands once.
+use mathlib.Core.Path.{sym, ap, _∙_}
 use borrow.Author.Tests.{not-true, not-false}
 use borrow.Author.Needs.{needs}
 use Rattle.settings_line.specs.declared.Fault.the-variants.{BadJoining}
-use Rattle.settings_line.specs.Line.{Joining, Unreadable, joiningOf, turnOf}
-use Rattle.settings_line.proofs.Values.{joining-none, joining-some}
-use Rattle.settings_line.proofs.Turns.{turn-stopped, turn-again, turn-new}
+use Rattle.settings_line.specs.Line.{Joining, turnOf, joiningOf}
+use Rattle.settings_line.proofs.Values.{timer-none, timer-some}
+use Rattle.settings_line.proofs.Turns.{turn-stopped}
 use Rattle.settings_line.proofs.with_joining.Statement.{statement}
 use Rattle.settings_line.proofs.with_joining.Tie as tie
 
--- What the text means where it is no value, and where it is one.
-none : (c : tie.Then1) → joiningOf (c .before .before .before .before .args .text .now) ≡ Unreadable BadJoining
-none c = joining-none _ _ (c .before .before .read-joining .ensures) (not-true _ (c .if1 .taken))
-
-some : (c : tie.Else1) → joiningOf (c .before .before .before .before .args .text .now) ≡ Joining (c .before .before .read-joining .result .milliseconds)
-some c = joining-some _ _ (c .before .before .read-joining .ensures) (not-false _ (c .if1 .left))
-
-read-joining-requires : tie.Need-read-joining-requires
-read-joining-requires c κs = search needs
-
-stopped-requires : tie.Need-stopped-requires
-stopped-requires c κs = search needs
-
 returns : tie.Need-returns
-unfolding turnOf
-returns c = turn-stopped _ _ _ _ (c .stopped .ensures) (none (c .before))
-
-stopped-requires-2 : tie.Need-stopped-requires-2
-stopped-requires-2 c κs = search needs
+unfolding turnOf joiningOf
+returns c = turn-stopped _ _ _ _ (c .stopped .ensures) (timer-none _ _ Joining BadJoining _ _ (c .before .before .before .read-joining .ensures) (not-true _ (c .before .if1 .taken)))
 
 returns-2 : tie.Need-returns-2
-unfolding turnOf
+unfolding turnOf joiningOf
 returns-2 c =
-    let t = c .before .before in let seen = t .before .before .before .before .args .seen in
-    turn-again _ _ (ap (turnOf seen) (some t)) (c .before .if2 .taken) (c .stopped2 .ensures)
-
-returns-3 : tie.Need-returns-3
-unfolding turnOf
-returns-3 c =
-    let d = c .before in let t = d .before in let seen = t .before .before .before .before .args .seen in
-    turn-new _ _ (ap (turnOf seen) (some t)) (d .if2 .left)
+    let t = c .before .before in let read = t .before .before .read-joining .ensures in let good = not-false _ (t .if1 .left) in
+    c .taken-once .ensures ∙ sym (ap (turnOf (t .before .before .before .before .args .seen)) (timer-some _ _ Joining BadJoining _ _ read good))
 
 pub with-joining-spec : {M : Type 1} → statement M
 with-joining-spec =
     tie.close
     (tie.spec
-    read-joining-requires
-    stopped-requires
+    (λ c κs. search needs)
+    (λ c κs. search needs)
     returns
-    stopped-requires-2
-    returns-2
-    returns-3)
+    (λ c κs. search needs)
+    returns-2)

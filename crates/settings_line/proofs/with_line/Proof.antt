@@ -2,8 +2,8 @@
 use mathlib.Core.Path.{_≡_, sym, _∙_}
 use mathlib.Core.Bool.{true, false}
 use borrow.Author.Needs.{needs}
-use Rattle.settings_line.specs.Line.{starts, cksn=, classmark=, identity=, «conn_req_ms=»}
-use Rattle.settings_line.proofs.Turns.{line-key, line-classmark, line-identity, line-joining, line-unknown}
+use Rattle.settings_line.specs.Line.{starts, cksn=, classmark=, identity=, «conn_req_ms=», «present_ms=»}
+use Rattle.settings_line.proofs.Turns.{line-key, line-classmark, line-identity, line-joining, line-invitation, line-unknown}
 use Rattle.settings_line.proofs.Names.{name-fits}
 use Rattle.settings_line.proofs.with_line.Statement.{statement}
 use Rattle.settings_line.proofs.with_line.Tie as tie
@@ -21,6 +21,9 @@ past-identity c = sym (c .before .starts-with3 .ensures) ∙ c .if3 .left
 past-joining : (c : tie.Else4) → starts «conn_req_ms=» (c .before .before .before .before .before .before .before .before .before .before .before .before .before .args .line .now) ≡ false
 past-joining c = sym (c .before .starts-with4 .ensures) ∙ c .if4 .left
 
+past-invitation : (c : tie.Else5) → starts «present_ms=» (c .before .before .before .before .before .before .before .before .before .before .before .before .before .before .before .before .args .line .now) ≡ false
+past-invitation c = sym (c .before .starts-with5 .ensures) ∙ c .if5 .left
+
 at-key : (c : tie.Then1) → starts cksn= (c .before .before .before .before .args .line .now) ≡ true
 at-key c = sym (c .before .starts-with .ensures) ∙ c .if1 .taken
 
@@ -32,6 +35,9 @@ at-identity c = sym (c .before .starts-with3 .ensures) ∙ c .if3 .taken
 
 at-joining : (c : tie.Then4) → starts «conn_req_ms=» (c .before .before .before .before .before .before .before .before .before .before .before .before .before .args .line .now) ≡ true
 at-joining c = sym (c .before .starts-with4 .ensures) ∙ c .if4 .taken
+
+at-invitation : (c : tie.Then5) → starts «present_ms=» (c .before .before .before .before .before .before .before .before .before .before .before .before .before .before .before .before .args .line .now) ≡ true
+at-invitation c = sym (c .before .starts-with5 .ensures) ∙ c .if5 .taken
 
 slice-aggregate-starts-with : tie.Need-slice-aggregate-starts-with
 slice-aggregate-starts-with c = search needs
@@ -122,14 +128,38 @@ returns-4 c =
     line-joining _ _ _ (past-key (t .before .before .before .before .before .before .before .before .before))
     (past-classmark (t .before .before .before .before .before .before)) (past-identity (t .before .before .before)) (at-joining t) (c .with-joining .ensures)
 
-stopped-requires : tie.Need-stopped-requires
-stopped-requires c κs = search needs
+slice-aggregate-starts-with-5 : tie.Need-slice-aggregate-starts-with-5
+slice-aggregate-starts-with-5 c = search needs
+
+starts-with-requires-5 : tie.Need-starts-with-requires-5
+starts-with-requires-5 c κs = search needs
+
+sub-with-invitation : tie.Need-sub-with-invitation
+sub-with-invitation c = name-fits «present_ms=» _ (at-invitation c)
+
+part-with-invitation-start : tie.Need-part-with-invitation-start
+part-with-invitation-start c = name-fits «present_ms=» _ (at-invitation c)
+
+part-with-invitation-end : tie.Need-part-with-invitation-end
+part-with-invitation-end c = search needs
+
+with-invitation-requires : tie.Need-with-invitation-requires
+with-invitation-requires c κs = search needs
 
 returns-5 : tie.Need-returns-5
 returns-5 c =
+    let t = c .before .before in
+    line-invitation _ _ _ (past-key (t .before .before .before .before .before .before .before .before .before .before .before .before)) (past-classmark (t .before .before .before .before .before .before .before .before .before))
+    (past-identity (t .before .before .before .before .before .before)) (past-joining (t .before .before .before)) (at-invitation t) (c .with-invitation .ensures)
+
+stopped-requires : tie.Need-stopped-requires
+stopped-requires c κs = search needs
+
+returns-6 : tie.Need-returns-6
+returns-6 c =
     let t = c .before in
-    line-unknown _ _ _ (past-key (t .before .before .before .before .before .before .before .before .before))
-    (past-classmark (t .before .before .before .before .before .before)) (past-identity (t .before .before .before)) (past-joining t) (c .stopped .ensures)
+    line-unknown _ _ _ (past-key (t .before .before .before .before .before .before .before .before .before .before .before .before)) (past-classmark (t .before .before .before .before .before .before .before .before .before))
+    (past-identity (t .before .before .before .before .before .before)) (past-joining (t .before .before .before)) (past-invitation t) (c .stopped .ensures)
 
 pub with-line-spec : {M : Type 1} → statement M
 with-line-spec =
@@ -163,5 +193,12 @@ with-line-spec =
     part-with-joining-end
     with-joining-requires
     returns-4
+    slice-aggregate-starts-with-5
+    starts-with-requires-5
+    sub-with-invitation
+    part-with-invitation-start
+    part-with-invitation-end
+    with-invitation-requires
+    returns-5
     stopped-requires
-    returns-5)
+    returns-6)

@@ -1,5 +1,4 @@
 -- `run_of` meets its contract: a length over 8, or one of 8 at most.
-use mathlib.Core.Path.{refl}
 use native.Mathlib.Omega.{arith}
 use borrow.Author.Tests.{lt-ltb, le-ltb}
 use Rattle.settings_octets.specs.Octets.{runOf}

@@ -4,17 +4,17 @@ use mathlib.Core.Path.{_≡_, refl, sym, _∙_}
 use native.Mathlib.Omega.{arith}
 use borrow.Author.Needs.{needs}
 use lib.ListN.{length, drop}
-use Rattle.timer.specs.Timers.{joiningGreatest}
 use Rattle.settings_values.specs.Values.{decimalFrom, decimalOf}
 use Rattle.settings_values.proofs.Digits.{decimal-next, decimal-bad, decimal-over, decimal-end}
 use Rattle.settings_values.proofs.decimal.Statement.{statement}
 use Rattle.settings_values.proofs.decimal.Tie as tie
 
 abbrev Inv-loop : tie.InvT-loop
-Inv-loop text number₀ place₀ place-end number place = (place ≤ length text) × (number ≤ joiningGreatest) × (decimalFrom number (drop place text) ≡ decimalOf text)
+Inv-loop text greatest most number₀ place₀ place-end number place =
+    (place ≤ length text) × (number ≤ greatest) × (decimalFrom greatest number (drop place text) ≡ decimalOf greatest text)
 
 abbrev μ-loop : tie.MeasureT-loop
-μ-loop text number₀ place₀ place-end number place = length text - place
+μ-loop text greatest most number₀ place₀ place-end number place = length text - place
 
 loop-holds : tie.Need-loop-holds Inv-loop μ-loop
 unfolding decimalOf
@@ -29,7 +29,7 @@ digit-of-requires c κs = search needs
 returns : tie.Need-returns Inv-loop μ-loop
 returns c =
     let l = c .before .before .before .before .loop in
-    decimal-bad (l .number) (l .place) (c .before .before .before .before .before .before .args .text .now) _ (omega arith)
+    decimal-bad _ (l .number) (l .place) (c .before .before .before .before .before .before .args .text .now) _ (omega arith)
     (c .before .digit-of .ensures) (c .if1 .taken) ∙ l .inv .2
 
 mul-number : tie.Need-mul-number Inv-loop μ-loop
@@ -44,7 +44,7 @@ add-number c = omega arith
 returns-2 : tie.Need-returns-2 Inv-loop μ-loop
 returns-2 c =
     let l = c .before .before .before .before .before .loop in
-    decimal-over (l .number) (l .place) (c .before .before .before .before .before .before .before .args .text .now) _ (omega arith)
+    decimal-over _ (l .number) (l .place) (c .before .before .before .before .before .before .before .args .text .now) _ (omega arith)
     (c .before .before .digit-of .ensures) (c .before .if1 .left) (c .if2 .taken) ∙ l .inv .2
 
 add-place : tie.Need-add-place Inv-loop μ-loop
@@ -58,14 +58,17 @@ loop-again c =
     let t = c .before .before .before .before .before in let l = t .loop in (
       omega arith,
       omega arith,
-      sym (decimal-next (l .number) (l .place) (t .before .before .args .text .now) _ (omega arith) (c .before .before .digit-of .ensures) (c .before .if1 .left))
+      sym (decimal-next _ (l .number) (l .place) (t .before .before .args .text .now) _ (omega arith) (c .before .before .digit-of .ensures) (c .before .if1 .left))
           ∙ l .inv .2,
     )
+
+cast-result : tie.Need-cast-result Inv-loop μ-loop
+cast-result c = omega arith
 
 returns-3 : tie.Need-returns-3 Inv-loop μ-loop
 returns-3 c =
     let l = c .before .loop in
-    sym (decimal-end (l .number) (l .place) (c .before .before .before .args .text .now) (omega arith) (omega arith)) ∙ l .inv .2
+    sym (decimal-end _ (l .number) (l .place) (c .before .before .before .args .text .now) (omega arith) (omega arith)) ∙ l .inv .2
 
 pub decimal-spec : {M : Type 1} → statement M
 decimal-spec =
@@ -84,4 +87,5 @@ decimal-spec =
     add-place
     loop-less
     loop-again
+    cast-result
     returns-3)

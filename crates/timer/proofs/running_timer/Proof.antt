@@ -17,4 +17,6 @@ running-timer-spec =
     (λ c. rw (c .before .before .before .if1 .left, c .before .before .if2 .left, c .before .if3 .taken, c .timer-number3 .ensures))
     (λ c κs. search needs)
     (λ c. rw (c .before .before .before .before .if1 .left, c .before .before .before .if2 .left, c .before .before .if3 .left, c .before .if4 .taken, c .timer-number4 .ensures))
-    (λ c. rw (c .before .before .before .if1 .left, c .before .before .if2 .left, c .before .if3 .left, c .if4 .left)))
+    (λ c κs. search needs)
+    (λ c. rw (c .before .before .before .before .before .if1 .left, c .before .before .before .before .if2 .left, c .before .before .before .if3 .left, c .before .before .if4 .left, c .before .if5 .taken, c .timer-number5 .ensures))
+    (λ c. rw (c .before .before .before .before .if1 .left, c .before .before .before .if2 .left, c .before .before .if3 .left, c .before .if4 .left, c .if5 .left)))

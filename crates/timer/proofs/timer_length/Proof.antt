@@ -15,4 +15,5 @@ timer-length-spec =
     (λ c. rw (c .match .keys2))
     (λ c. rw (c .match .keys3))
     (λ c. rw (c .match .keys4))
-    (λ c. no-row {A = ℕ} (c .before .args .timer) 0 (lengths (c .before .args .joining)) (c .match .rest)))
+    (λ c. rw (c .match .keys5))
+    (λ c. no-row {A = ℕ} (c .before .args .timer) 0 (lengths (c .before .args .joining) (c .before .args .invitation)) (c .match .rest)))

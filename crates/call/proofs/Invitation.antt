@@ -1,0 +1,145 @@
+-- An invitation by the third table, in so many words: T_pres runs from the notification on; join stops it and sets T_conn req; at its expiry the context is cleared and U0
+-- entered, with action 0; nowhere else has its expiry a step, and by the first two tables nowhere at all.
+use Prim.Native.Nat.{ℕ}
+use mathlib.Core.Path.{_≡_, refl, sym, ap, _∙_}
+use mathlib.Core.Bool.{true, false, cond, not, _&&_}
+use native.Mathlib.Omega.{arith}
+use borrow.Author.Tests.{not-true}
+use Rattle.octets.proofs.Choice.{never}
+use Rattle.codes.specs.declared.state.State.{State}
+use Rattle.codes.specs.declared.state.State.the-variants.{U0, U0p, U1, U2, U3, U4, U5, U6}
+use Rattle.message.specs.declared.Reference.{Reference}
+use Rattle.timer.specs.declared.Timer.the-variants.{NoTimer, ConnReq, Pres}
+use Rattle.timer.specs.Timers.{timerNumber, alone, withTimer}
+use Rattle.version.specs.declared.Table.{Table}
+use Rattle.version.specs.declared.Table.the-variants.{First, Second, Third}
+use Rattle.context.specs.declared.Context.{Context}
+use Rattle.context.specs.declared.Remembered.the-variants as Remembered
+use Rattle.context.specs.States.{same}
+use Rattle.context.specs.Context.{startRow, entering, cleared}
+use Rattle.context.proofs.Whole.{and-left, and-right}
+use Rattle.fitness.specs.Fitness.{timersFitBy}
+use Rattle.fitness.specs.Tables.{fitnessOf, fitOf}
+use Rattle.fitness.proofs.Tables.{fit-timers}
+use Rattle.transitions.specs.declared.Send.the-variants.{Nothing}
+use Rattle.transitions.specs.declared.Stores.the-variants as Stores
+use Rattle.transitions.specs.declared.Memory.the-variants.{Keep}
+use Rattle.transitions.specs.declared.Taken.{Taken}
+use Rattle.transitions.specs.declared.Decision.{Decision}
+use Rattle.transitions.specs.declared.Decision.the-variants.{Take, NoStep}
+use Rattle.transitions.specs.Table.{stepTable, happenedIn, decidedIn, decidedBy}
+use Rattle.transitions.proofs.InState.{happened-in-state, no-message}
+use Rattle.call.specs.declared.Event.{Event}
+use Rattle.call.specs.declared.Event.the-variants.{Join, Notified, PresExpired}
+use Rattle.call.specs.declared.Seen.{Seen}
+use Rattle.call.specs.Events.{bare, seenOf}
+use Rattle.call.specs.Step.{parametersAfter, valueAfter, referenceAfter, afterwards, took, noStep, carriedOut, stepBy, stepValue}
+
+-- Notified: the invitation's value and reference, and T_pres alone runs.
+pub notified : (value : ℕ) (reference : Reference) → stepValue Third cleared (Notified value reference)
+    ≡ took (record { state = U3; parameters = startRow U3; timers = alone (timerNumber Pres); value = value; reference = reference; remembered = Remembered.Nothing }) 1 Nothing
+unfolding stepBy seenOf decidedBy decidedIn happenedIn stepTable carriedOut afterwards parametersAfter entering withTimer valueAfter referenceAfter cleared alone
+notified value reference = refl
+
+-- ---- the rows
+
+-- The step of an event that carries nothing, by its row in the context's state.
+step-in : (table : Table) (x : Context) (s : State) (event : Event) (n : ℕ) → seenOf event ≡ bare n → (n ≡ 18 → ⊥) → x .state ≡ s
+    → (d : Decision) → happenedIn (stepTable table) s x n ≡ d → stepValue table x event ≡ carriedOut (fitnessOf table) x d (bare n)
+unfolding stepBy
+step-in table x s event n b o e d h =
+    ap (λ (seen : Seen). carriedOut (fitnessOf table) x (decidedBy (stepTable table) x (seen .number) (seen .code)) seen) b
+    ∙ ap (λ (c : Decision). carriedOut (fitnessOf table) x c (bare n)) (sym (no-message (stepTable table) x n 0 d o (happened-in-state (stepTable table) s x n d e (sym h))))
+
+seen-expiry : seenOf PresExpired ≡ bare 19
+unfolding seenOf
+seen-expiry = refl
+
+seen-join : seenOf Join ≡ bare 3
+unfolding seenOf
+seen-join = refl
+
+abbrev ends : Taken
+ends = record { next = U0; actions = 0; sends = Nothing; stops = NoTimer; sets = NoTimer; stores = Stores.Nothing; memory = Keep }
+
+abbrev joins : Taken
+joins = record { next = U4; actions = 4; sends = Nothing; stops = Pres; sets = ConnReq; stores = Stores.Nothing; memory = Keep }
+
+row-of-19 : (x : Context) → happenedIn (stepTable Third) U3 x 19 ≡ cond (x .timers .pres) (Take ends) NoStep
+unfolding happenedIn stepTable
+row-of-19 x = refl
+
+row-of-3 : (x : Context) → happenedIn (stepTable Third) U3 x 3 ≡ Take joins
+unfolding happenedIn stepTable
+row-of-3 x = refl
+
+-- No other state has a row of 19, by any table, and the first two have none in U3.
+no-row-of-19 : (table : Table) (x : Context) (s : State) → same s U3 ≡ false → happenedIn (stepTable table) s x 19 ≡ NoStep
+unfolding happenedIn stepTable
+no-row-of-19 table x U0 o = refl
+no-row-of-19 table x U0p o = refl
+no-row-of-19 table x U1 o = refl
+no-row-of-19 table x U2 o = refl
+no-row-of-19 table x U3 o = never (sym o)
+no-row-of-19 table x U4 o = refl
+no-row-of-19 table x U5 o = refl
+no-row-of-19 table x U6 o = refl
+
+none-in-first : (x : Context) → happenedIn (stepTable First) U3 x 19 ≡ NoStep
+unfolding happenedIn stepTable
+none-in-first x = refl
+
+none-in-second : (x : Context) → happenedIn (stepTable Second) U3 x 19 ≡ NoStep
+unfolding happenedIn stepTable
+none-in-second x = refl
+
+-- ---- in U3, by the third table
+
+module _ (x : Context) (fit : fitOf Third x ≡ true) (invited : x .state ≡ U3) where
+  timers-fit : (not (x .timers .mmest) && (not (x .timers .term) && (not (x .timers .connreq) && (not (x .timers .nochannel) && x .timers .pres)))) ≡ true
+  unfolding timersFitBy fitnessOf
+  timers-fit = rw invited at (fit-timers Third x fit)
+
+  behind-mm-est : (not (x .timers .term) && (not (x .timers .connreq) && (not (x .timers .nochannel) && x .timers .pres))) ≡ true
+  behind-mm-est = and-right (not (x .timers .mmest)) _ timers-fit
+
+  behind-conn-req : (not (x .timers .nochannel) && x .timers .pres) ≡ true
+  behind-conn-req = and-right (not (x .timers .connreq)) _ (and-right (not (x .timers .term)) _ behind-mm-est)
+
+  no-mm-est : x .timers .mmest ≡ false
+  no-mm-est = not-true _ (and-left (not (x .timers .mmest)) _ timers-fit)
+
+  no-term : x .timers .term ≡ false
+  no-term = not-true _ (and-left (not (x .timers .term)) _ behind-mm-est)
+
+  no-no-channel : x .timers .nochannel ≡ false
+  no-no-channel = not-true _ (and-left (not (x .timers .nochannel)) _ behind-conn-req)
+
+  -- "The timer always runs in U3, and \"fit\" says so".
+  pub runs-there : x .timers .pres ≡ true
+  runs-there = and-right (not (x .timers .nochannel)) _ behind-conn-req
+
+  -- "at expiry the context is cleared and U0 entered, with action 0"
+  pub forgotten : stepValue Third x PresExpired ≡ took cleared 0 Nothing
+  unfolding carriedOut afterwards
+  forgotten = step-in Third x U3 PresExpired 19 seen-expiry (λ e. omega (arith, e)) invited (Take ends) (row-of-19 x ∙ rw runs-there)
+
+  -- Joined: T_conn req alone runs, and the rest of the call stays.
+  pub joined : stepValue Third x Join
+      ≡ took (record { state = U4; parameters = startRow U4; timers = alone (timerNumber ConnReq); value = x .value; reference = x .reference; remembered = x .remembered }) 4 Nothing
+  unfolding carriedOut afterwards parametersAfter entering withTimer valueAfter referenceAfter alone
+  joined = step-in Third x U3 Join 3 seen-join (λ e. omega (arith, e)) invited (Take joins) (row-of-3 x) ∙ rw (invited, no-mm-est, no-term, no-no-channel)
+
+-- ---- nowhere else
+
+pub elsewhere : (table : Table) (x : Context) → same (x .state) U3 ≡ false → stepValue table x PresExpired ≡ noStep x
+unfolding carriedOut
+elsewhere table x other = step-in table x (x .state) PresExpired 19 seen-expiry (λ e. omega (arith, e)) refl NoStep (no-row-of-19 table x (x .state) other)
+
+pub not-by-the-first : (x : Context) → x .state ≡ U3 → stepValue First x PresExpired ≡ noStep x
+unfolding carriedOut
+not-by-the-first x invited = step-in First x U3 PresExpired 19 seen-expiry (λ e. omega (arith, e)) invited NoStep (none-in-first x)
+
+pub not-by-the-second : (x : Context) → x .state ≡ U3 → stepValue Second x PresExpired ≡ noStep x
+unfolding carriedOut
+not-by-the-second x invited = step-in Second x U3 PresExpired 19 seen-expiry (λ e. omega (arith, e)) invited NoStep (none-in-second x)
