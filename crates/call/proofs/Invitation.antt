@@ -8,7 +8,7 @@ use borrow.Author.Tests.{not-true}
 use Rattle.octets.proofs.Choice.{never}
 use Rattle.codes.specs.declared.state.State.{State}
 use Rattle.codes.specs.declared.state.State.the-variants.{U0, U0p, U1, U2, U3, U4, U5, U6}
-use Rattle.message.specs.declared.Reference.{Reference}
+use Rattle.octets.specs.declared.Reference.{Reference}
 use Rattle.timer.specs.declared.Timer.the-variants.{NoTimer, ConnReq, Pres}
 use Rattle.timer.specs.Timers.{timerNumber, alone, withTimer}
 use Rattle.version.specs.declared.Table.{Table}

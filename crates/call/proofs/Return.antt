@@ -6,7 +6,7 @@ use mathlib.Core.Bool.{true, false, not, _&&_}
 use borrow.Author.Tests.{not-true}
 use Rattle.codes.specs.declared.state.State.{State}
 use Rattle.codes.specs.declared.state.State.the-variants as State
-use Rattle.element.specs.declared.Run.{Run}
+use Rattle.octets.specs.declared.Run.{Run}
 use Rattle.message.specs.declared.Message.the-variants.{TerminationReject}
 use Rattle.timer.specs.Timers.{noTimers, withTimer}
 use Rattle.version.specs.declared.Table.{Table}

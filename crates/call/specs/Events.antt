@@ -11,7 +11,7 @@ use Rattle.codes.specs.MessageTypes.{
   GET-STATUS,
   SET-PARAMETER,
 }
-use Rattle.message.specs.declared.Reference.{Reference}
+use Rattle.octets.specs.declared.Reference.{Reference}
 use Rattle.message.specs.declared.Message.{Message}
 use Rattle.message.specs.declared.Message.the-variants as Message
 use Rattle.call.specs.declared.Event.{Event}

@@ -6,7 +6,7 @@ ghost use Rattle.call.specs.Reasons.{reasonNumber};
 use codes::message_type;
 use context::Context;
 use message::Message;
-use message::Reference;
+use octets::Reference;
 use transitions::Send;
 
 // The events of document 01, in the order of their numbers 1 to 18, and 19, which the third step table has.

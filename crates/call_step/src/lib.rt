@@ -13,7 +13,7 @@ use codes::attributes::Parameters;
 use codes::state::State;
 use context::Context;
 use context::Remembered;
-use message::Reference;
+use octets::Reference;
 use transitions::Decision;
 use transitions::Memory;
 use transitions::Send;

@@ -3,10 +3,7 @@ use Prim.Native.Nat.{ℕ, _+_, _*_, _/_, _%_}
 use mathlib.Core.List.{List, [], _∷_, _++_}
 use mathlib.Core.Bool.{Bool, cond}
 use lib.ListN.{length}
-
--- The four octets of a number, the lowest first. What is beyond them is not written.
-abbrev pub little : ℕ → List ℕ
-little n = n % 256 ∷ n / 256 % 256 ∷ n / 65536 % 256 ∷ n / 16777216 % 256 ∷ []
+use Rattle.octets.specs.Little.{little}
 
 -- With which a file starts.
 unfoldable pub captureHeader : List ℕ

@@ -6,7 +6,7 @@ use lib.ListN.{getD}
 use Rattle.codes.specs.declared.state.State.{State}
 use Rattle.codes.specs.declared.state.State.the-variants.{U0}
 use Rattle.codes.specs.declared.attributes.Parameters.{Parameters}
-use Rattle.message.specs.declared.Reference.{Reference}
+use Rattle.octets.specs.declared.Reference.{Reference}
 use Rattle.timer.specs.Timers.{noTimers}
 use Rattle.context.specs.declared.Context.{Context}
 use Rattle.context.specs.declared.Remembered.the-variants.{Nothing}

@@ -6,7 +6,7 @@ ghost use Rattle.context.specs.Context.{startRow, entering, cleared};
 ghost use Rattle.context.specs.Remembered.{rememberedNumber, remembering, returning};
 use codes::attributes::Parameters;
 use codes::state::State;
-use message::Reference;
+use octets::Reference;
 use timer::Timers;
 
 pub struct Context {

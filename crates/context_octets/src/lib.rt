@@ -5,7 +5,7 @@ use codes::attributes::Parameters;
 use codes::state::State;
 use context::Context;
 use context::Remembered;
-use message::Reference;
+use octets::Reference;
 use timer::Timers;
 
 // What sixteen octets are.

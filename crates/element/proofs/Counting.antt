@@ -8,7 +8,7 @@ use lib.ListN.{length, getD}
 use lib.Dec.{leb}
 use borrow.Author.Tests.{le-leb, lt-leb, leb-true, leb-false}
 use Rattle.octets.proofs.Choice.{at-cond}
-use Rattle.element.specs.declared.Run.{Run}
+use Rattle.octets.specs.declared.Run.{Run}
 use Rattle.element.specs.declared.Counted.{Counted}
 use Rattle.element.specs.declared.Counted.the-variants.{Octets, CutShort, WrongLength}
 use Rattle.element.specs.Elements.{within}

@@ -4,7 +4,7 @@ use mathlib.Core.List.{List}
 use mathlib.Core.Bool.{cond}
 use lib.ListN.{length, getD}
 use lib.Dec.{leb}
-use Rattle.element.specs.declared.Run.{Run}
+use Rattle.octets.specs.declared.Run.{Run}
 use Rattle.element.specs.declared.Counted.{Counted}
 use Rattle.element.specs.declared.Counted.the-variants.{Octets, CutShort, WrongLength}
 use Rattle.element.specs.Elements.{within}

@@ -4,12 +4,7 @@ ghost use Prim.Native.Nat.{_<_};
 ghost use lib.ListN.{length};
 ghost use Rattle.element.specs.Elements.{within, nextElement, elementFrom};
 ghost use Rattle.element.specs.Counted.{countedAt};
-
-// Octets of a lent slice: the place of the first, and how many.
-pub struct Run {
-    pub start: usize,
-    pub count: usize,
-}
+use octets::Run;
 
 // Where an element stands, and its identifier.
 pub enum Found {

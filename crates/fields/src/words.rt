@@ -2,7 +2,7 @@
 // command takes all its fields and then asks once whether the line was good (text::words::finished).
 ghost use Prim.Native.Nat.{_≤_};
 use message::Half;
-use message::Reference;
+use octets::Reference;
 use text::decimal::number_of;
 use text::hex::read_hex;
 use text::words::Words;

@@ -5,7 +5,7 @@ use lib.Dec.{eqb, leb}
 use Rattle.codes.specs.declared.state.State.{State}
 use Rattle.codes.specs.declared.state.State.the-variants.{U0}
 use Rattle.codes.specs.declared.attributes.Parameters.{Parameters}
-use Rattle.message.specs.declared.Reference.{Reference}
+use Rattle.octets.specs.declared.Reference.{Reference}
 use Rattle.timer.specs.declared.Timer.{Timer}
 use Rattle.timer.specs.declared.Timers.{Timers}
 use Rattle.timer.specs.Timers.{sameTimer, isOn, ofEach}

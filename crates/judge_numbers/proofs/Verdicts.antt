@@ -5,7 +5,7 @@ use mathlib.Core.List.{List}
 use native.Mathlib.Omega.{arith}
 use Rattle.octets.specs.Run.{part}
 use Rattle.octets.proofs.Choice.{at-cond}
-use Rattle.element.specs.declared.Run.{Run}
+use Rattle.octets.specs.declared.Run.{Run}
 use Rattle.reply.specs.declared.Own.{Own}
 use Rattle.timer.specs.declared.Window.{Window}
 use Rattle.timer.specs.Timers.{invitationGreatest}

@@ -6,7 +6,7 @@ ghost use Rattle.octets.specs.Run.{part};
 ghost use Rattle.verdict.specs.Judge.{judgeOf};
 ghost use Rattle.settings_octets.specs.Octets.{identityOf, ownOf};
 ghost use Rattle.judge_numbers.specs.Judging.{Fits, Timed, acceptedWith, atEntry, judgementOf, windowTold};
-use element::Run;
+use octets::Run;
 use reply::Own;
 use timer::Window;
 use verdict::Invitation;

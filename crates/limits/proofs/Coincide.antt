@@ -4,7 +4,7 @@ use mathlib.Core.Path.{_≡_}
 use mathlib.Core.List.{List}
 use mathlib.Core.Bool.{Bool}
 use Rattle.octets.proofs.Coincide.{coincide}
-use Rattle.element.specs.declared.Run.{Run}
+use Rattle.octets.specs.declared.Run.{Run}
 use Rattle.message.specs.declared.Half.{Half}
 use Rattle.limits.specs.Limits.{runFits, halfCount, statusFits}
 

@@ -4,7 +4,7 @@ use Prim.Native.Nat.{ℕ, _+_}
 use mathlib.Core.List.{List}
 use mathlib.Core.Bool.{Bool, _&&_}
 use lib.Dec.{leb}
-use Rattle.element.specs.declared.Run.{Run}
+use Rattle.octets.specs.declared.Run.{Run}
 use Rattle.message.specs.declared.Half.{Half}
 use Rattle.message.specs.declared.Half.the-variants.{Absent, Present}
 use Rattle.message.specs.Content.{lies}

@@ -1,8 +1,8 @@
 // Whether the fields of a message are as wide and as long as clauses 8 and 9 draw, and lie within the lent octets: what a writer asks before it writes.
 ghost use mathlib.Core.Path.{_≡_};
 ghost use Rattle.limits.specs.Limits.{runFits, halfFits, halfCount, statusFits};
-use element::Run;
 use message::Half;
+use octets::Run;
 
 // Whether a run of 1 to `most` octets lies within `source`.
 fn run_fits(source: &[u8], run: Run, most: usize) -> bool

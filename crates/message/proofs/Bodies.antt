@@ -7,7 +7,7 @@ use native.Mathlib.Omega.{arith}
 use lib.ListN.{length, getD}
 use lib.Dec.{leb}
 use borrow.Author.Tests.{le-leb, lt-leb, le-ltb, eq-eqb}
-use Rattle.element.specs.declared.Run.{Run}
+use Rattle.octets.specs.declared.Run.{Run}
 use Rattle.element.specs.declared.Found.{Found}
 use Rattle.element.specs.declared.Counted.{Counted}
 use Rattle.element.specs.declared.Counted.the-variants.{Octets}
@@ -15,7 +15,7 @@ use Rattle.element.specs.Elements.{elementFrom}
 use Rattle.element.specs.Counted.{countedAt}
 use Rattle.element.proofs.Elements.{within-says}
 use Rattle.element.proofs.Counting.{Lies, counted-told, Told}
-use Rattle.message.specs.declared.Reference.{Reference}
+use Rattle.octets.specs.declared.Reference.{Reference}
 use Rattle.message.specs.declared.Classmark.{Classmark}
 use Rattle.message.specs.declared.Half.{Half}
 use Rattle.message.specs.declared.Identity.{Identity}

@@ -10,7 +10,7 @@ use Rattle.octets.proofs.Choice.{at-cond}
 use Rattle.octets.proofs.Rows as Rows
 use Rattle.octets.proofs.Rows.{at-rows}
 use Rattle.codes.specs.MessageTypes.{discriminator}
-use Rattle.element.specs.declared.Run.{Run}
+use Rattle.octets.specs.declared.Run.{Run}
 use Rattle.element.specs.declared.Found.{Found}
 use Rattle.element.specs.declared.Found.the-variants.{At, Nothing}
 use Rattle.element.specs.declared.Counted.{Counted}

@@ -5,8 +5,8 @@ use mathlib.Core.Bool.{Bool, true}
 use lib.ListN.{length}
 use lib.Dec.{leb}
 use Rattle.octets.specs.Run.{part}
-use Rattle.element.specs.declared.Run.{Run}
-use Rattle.message.specs.declared.Reference.{Reference}
+use Rattle.octets.specs.declared.Run.{Run}
+use Rattle.octets.specs.declared.Reference.{Reference}
 use Rattle.message.specs.declared.Classmark.{Classmark}
 use Rattle.message.specs.declared.Identity.{Identity}
 use Rattle.message.specs.declared.Identity.the-variants.{Absent, Present}

@@ -3,15 +3,8 @@ mod kinds;
 
 ghost use mathlib.Core.Path.{_≡_};
 ghost use Rattle.message.specs.Reading.{readMessage};
-use element::Run;
-
-// The four octets of a call reference, 9.4.1. They are carried as they came and never taken apart.
-pub struct Reference {
-    pub first: u8,
-    pub second: u8,
-    pub third: u8,
-    pub fourth: u8,
-}
+use octets::Reference;
+use octets::Run;
 
 // The three octets of a mobile station classmark 2.
 pub struct Classmark {

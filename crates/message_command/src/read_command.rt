@@ -1,5 +1,4 @@
 // The command `read OCTETS` of the probe: what reading a message comes to, in numbers.
-use element::Run;
 use fields::fault_number;
 use fields::malformed;
 use fields::words::octets_word;
@@ -8,7 +7,8 @@ use message::Half;
 use message::Identity;
 use message::Message;
 use message::Reading;
-use message::Reference;
+use octets::Reference;
+use octets::Run;
 use saying::say;
 use saying::say_hex;
 use saying::say_number;

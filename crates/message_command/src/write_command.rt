@@ -1,6 +1,5 @@
 // The command `write BUFLEN FLAG TV KIND FIELDS..` of the probe: what writing a message comes to, in numbers and octets.
 ghost use Prim.Native.Nat.{_≤_};
-use element::Run;
 use fields::malformed;
 use fields::octet_at;
 use fields::words::half_word;
@@ -11,6 +10,7 @@ use fields::words::small_word;
 use message::Classmark;
 use message::Identity;
 use message::Message;
+use octets::Run;
 use saying::say;
 use saying::say_hex;
 use text::output::Output;

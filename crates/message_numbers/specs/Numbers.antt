@@ -15,8 +15,8 @@ use Rattle.codes.specs.MessageTypes.{
   GET-STATUS,
   SET-PARAMETER,
 }
-use Rattle.element.specs.declared.Run.{Run}
-use Rattle.message.specs.declared.Reference.{Reference}
+use Rattle.octets.specs.declared.Run.{Run}
+use Rattle.octets.specs.declared.Reference.{Reference}
 use Rattle.message.specs.declared.Classmark.{Classmark}
 use Rattle.message.specs.declared.Identity.{Identity}
 use Rattle.message.specs.declared.Identity.the-variants.{Absent as Anonymous, Present as Named}

@@ -17,12 +17,12 @@ use crate::Optional;
 use crate::Place;
 use crate::Three;
 use codes::message_type;
-use element::Run;
 use message::Classmark;
 use message::Half;
 use message::Identity;
 use message::Message;
-use message::Reference;
+use octets::Reference;
+use octets::Run;
 
 fn classmark_of(three: Three) -> Classmark
     ensures { λ r. ⌜ r ≡ classmarkOf three ⌝ }

@@ -23,12 +23,12 @@ use crate::Optional;
 use crate::Place;
 use crate::Three;
 use codes::message_type;
-use element::Run;
 use message::Classmark;
 use message::Half;
 use message::Identity;
 use message::Message;
-use message::Reference;
+use octets::Reference;
+use octets::Run;
 
 fn three_of(classmark: Classmark) -> Three
     ensures { λ r. ⌜ r ≡ threeOf classmark ⌝ }

@@ -1,9 +1,23 @@
-// Runs of octets: a run of one lent slice copied to a place of another.
+// Octets that stand together: runs of a lent slice, the four of a call reference; and a run of one lent slice copied to a place of another.
 ghost use mathlib.Core.Path.{_≡_};
 ghost use Prim.Native.Nat.{_+_, _≤_};
 ghost use lib.ListN.{length};
 ghost use lib.Seq.{sets};
 ghost use Rattle.octets.specs.Run.{part};
+
+// Octets of a lent slice: the place of the first, and how many.
+pub struct Run {
+    pub start: usize,
+    pub count: usize,
+}
+
+// The four octets of a call reference, 9.4.1. They are carried as they came and never taken apart.
+pub struct Reference {
+    pub first: u8,
+    pub second: u8,
+    pub third: u8,
+    pub fourth: u8,
+}
 
 // Copies `count` octets of `source` from `start` on over those of `buffer` from `at` on.
 pub fn copy_to(buffer: &mut [u8], at: usize, source: &[u8], start: usize, count: usize)

@@ -5,7 +5,7 @@ use mathlib.Core.Bool.{cond, not}
 use lib.ListN.{length}
 use lib.Dec.{eqb}
 use Rattle.octets.specs.Rows.{rows}
-use Rattle.message.specs.declared.Reference.{Reference}
+use Rattle.octets.specs.declared.Reference.{Reference}
 use Rattle.version.specs.declared.Table.{Table}
 use Rattle.version.specs.Version.{greatestEvent}
 use Rattle.context.specs.declared.Context.{Context}

@@ -8,7 +8,7 @@ ghost use Rattle.radio.specs.Step.{eventOf, dueTo, reactedTo, fitnessRef
 use call::Due;
 use call::Event;
 use context::Context;
-use message::Reference;
+use octets::Reference;
 use reply::Own;
 use version::Table;
 

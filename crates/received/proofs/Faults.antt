@@ -10,7 +10,7 @@ use borrow.Author.Tests.{le-ltb}
 use Rattle.octets.proofs.Choice.{at-cond}
 use Rattle.octets.proofs.Rows.{Absent, Each, other, at-rows}
 use Rattle.codes.specs.declared.state.State.the-variants.{U0}
-use Rattle.element.specs.declared.Run.{Run}
+use Rattle.octets.specs.declared.Run.{Run}
 use Rattle.element.specs.declared.Found.{Found}
 use Rattle.element.specs.declared.Found.the-variants.{At, Nothing}
 use Rattle.element.specs.declared.Counted.{Counted}

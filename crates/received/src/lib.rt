@@ -9,10 +9,10 @@ use call::Due;
 use call::Event;
 use call::Reason;
 use context::Context;
-use element::Run;
 use message::Identity;
 use message::Message;
 use message::Reading;
+use octets::Run;
 use transitions::Decision;
 use version::Table;
 

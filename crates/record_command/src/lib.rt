@@ -31,31 +31,10 @@ struct ClaimsWord {
     words: Words,
 }
 
-struct ReferenceWord {
-    reference: Reference,
-    words: Words,
-}
-
 // The octets of a message or a reply, as places behind the log's.
 struct Place {
     start: usize,
     count: usize,
-}
-
-fn log_reference(line: &[u8], words: Words) -> ReferenceWord {
-    let word = reference_word(line, words);
-    let next = word.words;
-    let call = word.reference;
-    let reference = Reference {
-        first: call.first,
-        second: call.second,
-        third: call.third,
-        fourth: call.fourth,
-    };
-    ReferenceWord {
-        reference,
-        words: next,
-    }
 }
 
 // DELTA EVENT ETV EREF MODE.
@@ -66,7 +45,7 @@ fn happened_word(line: &[u8], words: Words) -> HappenedWord {
     let event_words = event.words;
     let value = number_word(line, event_words, MOST);
     let value_words = value.words;
-    let call = log_reference(line, value_words);
+    let call = reference_word(line, value_words);
     let call_words = call.words;
     let reference = call.reference;
     let mode = number_word(line, call_words, MOST);

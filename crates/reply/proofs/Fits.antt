@@ -12,7 +12,7 @@ use Rattle.codes.specs.declared.state.State.the-variants.{U0, U0p, U1, U2, U3, 
 use Rattle.codes.specs.declared.attributes.Parameters.{Parameters}
 use Rattle.codes.specs.CallStates.{callStateCode}
 use Rattle.codes.specs.Attributes.{attributesOf, weighs}
-use Rattle.message.specs.declared.Reference.{Reference}
+use Rattle.octets.specs.declared.Reference.{Reference}
 use Rattle.message.specs.Content.{Content, immediateSetup, setup, terminationRequest}
 use Rattle.message.specs.Tables.{fits, table, typeOf, written, rowsFit}
 use Rattle.context.specs.declared.Context.{Context}

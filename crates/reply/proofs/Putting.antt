@@ -12,8 +12,8 @@ use Rattle.octets.specs.Run.{part}
 use Rattle.octets.proofs.Stores.{part-length, over-start}
 use Rattle.codes.specs.CallStates.{callStateCode}
 use Rattle.codes.specs.Attributes.{attributesOf}
-use Rattle.element.specs.declared.Run.{Run}
-use Rattle.message.specs.declared.Reference.{Reference}
+use Rattle.octets.specs.declared.Run.{Run}
+use Rattle.octets.specs.declared.Reference.{Reference}
 use Rattle.message.specs.declared.Classmark.{Classmark}
 use Rattle.message.specs.declared.Half.{Half}
 use Rattle.message.specs.declared.Half.the-variants.{Present}

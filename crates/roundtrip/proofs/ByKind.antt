@@ -10,7 +10,7 @@ use lib.Seq.{getD-append-add}
 use lib.Dec.{leb}
 use borrow.Author.Tests.{le-leb, lt-leb}
 use Rattle.octets.proofs.Choice.{at-cond}
-use Rattle.element.specs.declared.Run.{Run}
+use Rattle.octets.specs.declared.Run.{Run}
 use Rattle.element.specs.declared.Found.{Found}
 use Rattle.element.specs.declared.Found.the-variants.{At, Nothing}
 use Rattle.element.specs.declared.Next.the-variants.{At as NextAt}
@@ -28,7 +28,7 @@ use Rattle.element.proofs.Elements.{
   from-octet,
 }
 use Rattle.element.proofs.Counting.{counted-there}
-use Rattle.message.specs.declared.Reference.{Reference}
+use Rattle.octets.specs.declared.Reference.{Reference}
 use Rattle.message.specs.declared.Classmark.{Classmark}
 use Rattle.message.specs.declared.Identity.the-variants.{Absent as Anonymous, Present as Named}
 use Rattle.message.specs.declared.Half.{Half}

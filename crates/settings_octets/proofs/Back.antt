@@ -9,7 +9,8 @@ use borrow.Author.Tests.{le-ltb}
 use Rattle.settings_values.specs.declared.Settings.{Settings}
 use Rattle.settings_values.specs.Values.{padded, InRange}
 use Rattle.octets.proofs.Listed.{listed, all-listed}
-use Rattle.settings_octets.specs.Octets.{identityOf, lengthOctet, octetsOf, ownOf, runOf, timerOctets, timerAt}
+use Rattle.octets.specs.Little.{little}
+use Rattle.settings_octets.specs.Octets.{identityOf, lengthOctet, octetsOf, ownOf, runOf, timerAt}
 
 -- Key number and classmark.
 pub own-back : (x : Settings)
@@ -32,7 +33,7 @@ unfolding octetsOf lengthOctet runOf
 identity-back x r =
     let n : min (x .count) 255 ≡ x .count = omega (arith, r .most) in
     rw (n, le-ltb 8 (x .count) (r .most)) (
-    take-append-le (x .count) (listed 8 0 (x .identity)) (timerOctets (x .joining) ++ timerOctets (x .invitation)) (r .most)
+    take-append-le (x .count) (listed 8 0 (x .identity)) (little (x .joining) ++ little (x .invitation)) (r .most)
     ∙ ap (take (x .count)) (sym (all-listed 8 (x .identity) (eight x r))))
 
 -- A number below 2 to the 32nd is its four octets.
@@ -46,9 +47,9 @@ four n h =
 
 -- The timers of settings.
 pub joining-back : (x : Settings) → x .joining < 4294967296 → timerAt (octetsOf x) 13 ≡ x .joining
-unfolding octetsOf timerOctets timerAt
+unfolding octetsOf timerAt
 joining-back x h = four (x .joining) h
 
 pub invitation-back : (x : Settings) → x .invitation < 4294967296 → timerAt (octetsOf x) 17 ≡ x .invitation
-unfolding octetsOf timerOctets timerAt
+unfolding octetsOf timerAt
 invitation-back x h = four (x .invitation) h

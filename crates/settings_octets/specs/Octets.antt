@@ -1,12 +1,13 @@
 -- The twenty-one octets of settings: 0 ciphering key number, 1 to 3 classmark, 4 length of the own identity, 5 to 12 the identity and zeros behind it,
 -- 13 to 16 the joining timer and 17 to 20 the invitation timer, each in milliseconds, low octet first.
-use Prim.Native.Nat.{ℕ, _+_, _*_, _/_, _%_, min}
+use Prim.Native.Nat.{ℕ, _+_, _*_, min}
 use mathlib.Core.List.{List, [], _∷_, _++_}
 use mathlib.Core.Bool.{cond}
 use lib.Dec.{ltb}
 use lib.ListN.{getD}
 use Rattle.octets.specs.Run.{part}
-use Rattle.element.specs.declared.Run.{Run}
+use Rattle.octets.specs.Little.{little}
+use Rattle.octets.specs.declared.Run.{Run}
 use Rattle.reply.specs.declared.Own.{Own}
 use Rattle.settings_values.specs.declared.Settings.{Settings}
 
@@ -30,10 +31,7 @@ identityOf s = part s (identityRun s .start) (identityRun s .count)
 unfoldable pub lengthOctet : ℕ → ℕ
 lengthOctet count = min count 255
 
--- A timer in milliseconds as four octets, and the timer whose four octets begin at a place.
-unfoldable pub timerOctets : ℕ → List ℕ
-timerOctets n = n % 256 ∷ n / 256 % 256 ∷ n / 65536 % 256 ∷ n / 16777216 % 256 ∷ []
-
+-- The timer, in milliseconds, whose four octets begin at a place.
 unfoldable pub timerAt : List ℕ → ℕ → ℕ
 timerAt s place = getD s place 0 + 256 * getD s (place + 1) 0 + 65536 * getD s (place + 2) 0 + 16777216 * getD s (place + 3) 0
 
@@ -46,4 +44,4 @@ octetsOf x =
     getD c 0 0 ∷ getD c 1 0 ∷ getD c 2 0 ∷
     lengthOctet (x .count) ∷
     getD i 0 0 ∷ getD i 1 0 ∷ getD i 2 0 ∷ getD i 3 0 ∷ getD i 4 0 ∷ getD i 5 0 ∷ getD i 6 0 ∷ getD i 7 0 ∷
-    timerOctets (x .joining) ++ timerOctets (x .invitation)
+    little (x .joining) ++ little (x .invitation)

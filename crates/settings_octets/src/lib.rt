@@ -1,10 +1,11 @@
 // The settings as the twenty-one octets that a host in C keeps of them: 0 key number, 1 to 3 classmark, 4 length of the own identity,
 // 5 to 12 the identity, 13 to 16 the joining timer, 17 to 20 the invitation timer, each in milliseconds, low octet first.
 ghost use mathlib.Core.Path.{_≡_};
+ghost use Rattle.octets.specs.Little.{little};
 ghost use Prim.Native.Nat.{_+_, _≤_};
-ghost use Rattle.settings_octets.specs.Octets.{identityRun, lengthOctet, octetsOf, ownOf, runOf, timerOctets};
-use element::Run;
+ghost use Rattle.settings_octets.specs.Octets.{identityRun, lengthOctet, octetsOf, ownOf, runOf};
 use message::Classmark;
+use octets::Run;
 use reply::Own;
 use settings_values::Settings;
 
@@ -55,7 +56,7 @@ fn length_octet(count: usize) -> u8
 
 // The four octets of a timer in milliseconds, the lowest first.
 fn timer_octets(milliseconds: u32) -> [u8; 4]
-    ensures { λ r. ⌜ r ≡ timerOctets milliseconds ⌝ }
+    ensures { λ r. ⌜ r ≡ little milliseconds ⌝ }
 {
     [
         (milliseconds % 256) as u8,

@@ -8,7 +8,7 @@ use context::remembered_number;
 use context::state_number;
 use fields::words::reference_word;
 use fields::words::small_word;
-use message::Reference;
+use octets::Reference;
 use saying::say;
 use saying::say_hex;
 use saying::say_number;

@@ -6,7 +6,7 @@ use native.Mathlib.Omega.{arith}
 use lib.ListN.{length}
 use lib.Seq.{sets}
 use Rattle.octets.specs.Run.{part}
-use Rattle.element.specs.declared.Run.{Run}
+use Rattle.octets.specs.declared.Run.{Run}
 use Rattle.reply.specs.declared.Own.{Own}
 use Rattle.context.specs.declared.Context.{Context}
 use Rattle.version.specs.Version.{newest}

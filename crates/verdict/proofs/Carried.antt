@@ -6,7 +6,7 @@ use mathlib.Core.List.{List, []}
 use lib.Dec.{eqb}
 use borrow.Author.Tests.{eqb-true}
 use Rattle.octets.proofs.Choice.{never}
-use Rattle.message.specs.declared.Reference.{Reference}
+use Rattle.octets.specs.declared.Reference.{Reference}
 use Rattle.version.specs.declared.Table.{Table}
 use Rattle.context.specs.declared.Context.{Context}
 use Rattle.transitions.specs.declared.Send.{Send}
@@ -31,7 +31,7 @@ use Rattle.radio.specs.Step.{eventOf, toldDue, dueTo, reactedTo, refusalOf, rea
 use Rattle.radio.proofs.Numbers.{NoMessage, no-message}
 use Rattle.log_data.specs.Reading.{carriesCall, noReference}
 use Rattle.verdict.specs.Table.{GivenEvent, stepped}
-use Rattle.verdict.specs.Entries.{callReference, carriedBy}
+use Rattle.verdict.specs.Entries.{carriedBy}
 
 -- ---- only the answer to a message copies it
 
@@ -101,8 +101,8 @@ module _ (table : Table) (own : Own) (identity : List ℕ) (x : Context) (e : Gi
           rw (
             c,
             m,
-            no-call c (e .happened .value) 0 (e .happened .reference) (callReference noReference),
-            no-octets (eventOf number 0 (callReference noReference)) (no-message _ _ _) (e .octets) [],
+            no-call c (e .happened .value) 0 (e .happened .reference) noReference,
+            no-octets (eventOf number 0 noReference) (no-message _ _ _) (e .octets) [],
           )
 
       by-call : (c : Bool) → carriesCall number ≡ c → stepped table own identity x (carriedBy e) ≡ stepped table own identity x e

@@ -23,7 +23,7 @@ use Rattle.radio.proofs.Answers.{Honest, step-honest, step-short}
 use Rattle.version.specs.declared.Table.{Table}
 use Rattle.version.specs.Version.{greatestEvent, greatestState, greatestActions, longest}
 use Rattle.version.proofs.Tables.{state-so, actions-so}
-use Rattle.log_data.specs.declared.Reference.{Reference}
+use Rattle.octets.specs.declared.Reference.{Reference}
 use Rattle.log_data.specs.Reading.{carriesCall}
 use Rattle.log.specs.Layout.{Field, number, octets, allInRange, dataFields, claimFields, fields, ranged}
 use Rattle.recorder.specs.Recording.{added, recordAnswer, answerNumber}

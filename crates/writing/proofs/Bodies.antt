@@ -9,8 +9,8 @@ use lib.Seq.{sets}
 use lib.Dec.{ltb}
 use borrow.Author.Tests.{lt-ltb, le-ltb}
 use Rattle.octets.proofs.Stores.{sets-then}
-use Rattle.element.specs.declared.Run.{Run}
-use Rattle.message.specs.declared.Reference.{Reference}
+use Rattle.octets.specs.declared.Run.{Run}
+use Rattle.octets.specs.declared.Reference.{Reference}
 use Rattle.message.specs.declared.Classmark.{Classmark}
 use Rattle.message.specs.declared.Half.{Half}
 use Rattle.message.specs.declared.Half.the-variants.{Absent, Present}

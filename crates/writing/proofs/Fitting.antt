@@ -8,8 +8,8 @@ use lib.ListN.{length, length-append}
 use lib.Dec.{leb, ltb}
 use borrow.Author.Tests.{le-leb, lt-leb, leb-true, leb-false, le-ltb}
 use Rattle.octets.proofs.Stores.{part-length}
-use Rattle.element.specs.declared.Run.{Run}
-use Rattle.message.specs.declared.Reference.{Reference}
+use Rattle.octets.specs.declared.Run.{Run}
+use Rattle.octets.specs.declared.Reference.{Reference}
 use Rattle.message.specs.declared.Classmark.{Classmark}
 use Rattle.message.specs.declared.Identity.the-variants.{Absent as Anonymous, Present as Named}
 use Rattle.message.specs.declared.Half.{Half}

@@ -6,14 +6,13 @@ ghost use mathlib.Core.List.{_∷_, []};
 ghost use Prim.Native.Nat.{_+_, _≤_, _<_};
 ghost use lib.ListN.{length};
 ghost use lib.Seq.{sets};
-ghost use Rattle.element.specs.declared.Run.{Run};
+ghost use Rattle.octets.specs.declared.Run.{Run};
 ghost use Rattle.message.specs.declared.Message.{Message};
 ghost use Rattle.message.specs.Content.{contentOf, referenceOctets};
 ghost use Rattle.limits.specs.Limits.{runFits, halfFits, halfCount};
 ghost use Rattle.writing.specs.Bodies.{Writes, causeOctets, bodyOctets, bodyFits, halfOctets};
 use crate::Wrote;
 use codes::message_type;
-use element::Run;
 use limits::cause_fits;
 use limits::half_count;
 use limits::identity_fits;
@@ -22,7 +21,8 @@ use message::Classmark;
 use message::Half;
 use message::Identity;
 use message::Message;
-use message::Reference;
+use octets::Reference;
+use octets::Run;
 use octets::copy_to;
 
 // The four octets of a reference, to a place.

@@ -1,11 +1,9 @@
 -- `timer_octets` meets its contract: each octet is the one of the definition.
 use borrow.Author.Needs.{needs}
-use Rattle.settings_octets.specs.Octets.{timerOctets}
 use Rattle.settings_octets.proofs.timer_octets.Statement.{statement}
 use Rattle.settings_octets.proofs.timer_octets.Tie as tie
 
 pub timer-octets-spec : {M : Type 1} → statement M
-unfolding timerOctets
 timer-octets-spec =
     tie.close
     (tie.spec

@@ -1,11 +1,11 @@
 -- `write` meets its contract: every octet is stored.
 use borrow.Author.Needs.{needs}
-use Rattle.settings_octets.specs.Octets.{octetsOf, timerOctets}
+use Rattle.settings_octets.specs.Octets.{octetsOf}
 use Rattle.settings_octets.proofs.write.Statement.{statement}
 use Rattle.settings_octets.proofs.write.Tie as tie
 
 pub write-spec : {M : Type 1} → statement M
-unfolding octetsOf timerOctets
+unfolding octetsOf
 write-spec =
     tie.close
     (tie.spec

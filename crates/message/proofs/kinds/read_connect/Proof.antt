@@ -3,7 +3,7 @@ use borrow.Author.Needs.{needs}
 use mathlib.Core.Path.{ap, _∙_}
 use lib.ListN.{getD}
 use Prim.Native.Nat.{_%_}
-use Rattle.message.specs.declared.Reference.{Reference}
+use Rattle.octets.specs.declared.Reference.{Reference}
 use Rattle.message.specs.declared.Message.the-variants.{Connect}
 use Rattle.message.specs.Reading.{wholeOf, connectOf}
 use Rattle.message.proofs.Bodies.{whole-cut}
