@@ -6,7 +6,7 @@
 use super::judge::{claims, push, run, true_log, Line, SCRIPTS};
 use super::judge::{CONNECT, TERMINATION_TO_LISTENER};
 use super::judge_limits::entries;
-use super::judge_versions::RETURNS;
+use super::judge_versions::{joining_timer, longer_forms, RETURNS};
 use crate::generate::log::bytes;
 use crate::tables::{Table, TABLES};
 
@@ -92,22 +92,16 @@ pub fn all(lines: &mut Vec<String>) {
     in_two_parts(lines);
     two_invitations(lines);
     both_settings(lines);
-    joining_timer(lines);
+    joining_timer(lines, Table::Third);
     stopped(lines);
     long_times(lines);
 }
 
 /// Longer forms of 3, and numbers whose low group is 3.
 fn versions(lines: &mut Vec<String>) {
-    for log in [
-        &[0x83, 0x00][..],
-        &[0x83, 0x80, 0x00],
-        &[0x83, 0x80, 0x80, 0x80, 0x10],
-        &[0x83, 0x80, 0x80, 0x80, 0x80, 0x00],
-        &[0x83, 0x01],
-        &[0x80, 0x03],
-    ] {
-        push(lines, log);
+    longer_forms(lines, 3);
+    for log in [[0x83, 0x01], [0x80, 0x03]] {
+        push(lines, &log);
     }
 }
 
@@ -296,22 +290,6 @@ fn both_settings(lines: &mut Vec<String>) {
         lines,
         &[&[(0, 10, NONE), (15_000, 3, NONE), (20_000, 11, NONE)]],
     );
-}
-
-/// Cases c5 to c8 of document 01 as logs of version 3.
-fn joining_timer(lines: &mut Vec<String>) {
-    let joined: &[Line] = &[(0, 10, NONE), (0, 3, NONE)];
-    for delta in [9_999, 10_000, 12_000, 20_000, 30_000, 30_001] {
-        for event in [16, 11] {
-            script(lines, &[joined, &[(delta, event, NONE)]]);
-        }
-    }
-    for delta in [12_000, 12_001] {
-        script(
-            lines,
-            &[joined, &[(12_000, 16, NONE)], joined, &[(delta, 11, NONE)]],
-        );
-    }
 }
 
 /// Once the invitation is over its timer asks nothing more; the next one has a

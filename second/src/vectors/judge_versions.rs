@@ -96,22 +96,27 @@ pub fn all(lines: &mut Vec<String>) {
     entries(lines, Table::Second);
     times_of_term(lines);
     after_a_return(lines);
-    joining_timer(lines);
+    joining_timer(lines, Table::Second);
+}
+
+/// Longer forms of a number below 128.
+pub fn longer_forms(lines: &mut Vec<String>, number: u8) {
+    let first = 0x80 + number;
+    for log in [
+        &[first, 0x00][..],
+        &[first, 0x80, 0x00],
+        &[first, 0x80, 0x80, 0x80, 0x10],
+        &[first, 0x80, 0x80, 0x80, 0x80, 0x00],
+    ] {
+        push(lines, log);
+    }
 }
 
 /// Longer forms of 2, and numbers whose low group is 1 or 2.
 fn versions(lines: &mut Vec<String>) {
-    for log in [
-        &[0x82, 0x00][..],
-        &[0x82, 0x80, 0x00],
-        &[0x82, 0x80, 0x80, 0x80, 0x10],
-        &[0x82, 0x80, 0x80, 0x80, 0x80, 0x00],
-        &[0x81, 0x01],
-        &[0x82, 0x01],
-        &[0x80, 0x02],
-        &[0x82, 0x02],
-    ] {
-        push(lines, log);
+    longer_forms(lines, 2);
+    for log in [[0x81, 0x01], [0x82, 0x01], [0x80, 0x02], [0x82, 0x02]] {
+        push(lines, &log);
     }
 }
 
@@ -177,18 +182,17 @@ fn after_a_return(lines: &mut Vec<String>) {
     }
 }
 
-/// Cases c5 to c8 of document 01 as logs of version 2.
-fn joining_timer(lines: &mut Vec<String>) {
+/// Cases c5 to c8 of document 01 as logs of a table.
+pub fn joining_timer(lines: &mut Vec<String>, table: Table) {
     let joined: &[Line] = &[(0, 10, NONE), (0, 3, NONE)];
     for delta in [9_999, 10_000, 12_000, 20_000, 30_000, 30_001] {
         for event in [16, 11] {
-            script(lines, &[joined, &[(delta, event, NONE)]]);
+            let parts: &[&[Line]] = &[joined, &[(delta, event, NONE)]];
+            push(lines, &true_log(table, &parts.concat()));
         }
     }
     for delta in [12_000, 12_001] {
-        script(
-            lines,
-            &[joined, &[(12_000, 16, NONE)], joined, &[(delta, 11, NONE)]],
-        );
+        let parts: &[&[Line]] = &[joined, &[(12_000, 16, NONE)], joined, &[(delta, 11, NONE)]];
+        push(lines, &true_log(table, &parts.concat()));
     }
 }
