@@ -14,7 +14,7 @@ use Rattle.context.specs.States.{among}
 abbrev pub noTalk : Talk
 noTalk = record { chooser = Neither; termination = false; status = false; awaiting = false }
 
-unfoldable pub chooserNumber : Chooser → ℕ
+abbrev pub chooserNumber : Chooser → ℕ
 chooserNumber Neither = 0
 chooserNumber Us = 1
 chooserNumber Cell = 2

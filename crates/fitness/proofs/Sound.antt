@@ -14,10 +14,11 @@ use Rattle.timer.specs.Timers.{isOn, howMany, noTimers, alone}
 use Rattle.timer.proofs.Few.{within, few-within, few-alone}
 use Rattle.context.specs.declared.Context.{Context}
 use Rattle.context.specs.declared.Remembered.the-variants.{Nothing}
-use Rattle.context.specs.Context.{startRow, entering, cleared}
+use Rattle.context.specs.Context.{startRow, setRow, entering, cleared}
+use Rattle.context.specs.States.{among}
 use Rattle.context.specs.Running.{runs}
 use Rattle.context.proofs.Whole.{and-left, and-right, and-both, inStates, at-state, ofParameters, at-parameters}
-use Rattle.fitness.specs.Fitness.{Fitness, Runs, always, optionally, never, obeys, whenRuns, consistentBy, timersFitBy, rememberedFitBy, isCleared, fitBy}
+use Rattle.fitness.specs.Fitness.{Fitness, Runs, always, optionally, never, obeys, whenRuns, consistentBy, timersFitBy, rememberedFitBy, talkFitBy, isCleared, fitBy}
 use Rattle.fitness.proofs.Fit.{fit-timers, fit-made}
 
 -- A timer may run where its row does not say that it never does.
@@ -36,11 +37,14 @@ allowed d s = record {
   pres = may (whenRuns Pres s (d .timers));
 }
 
--- In each state at most one timer may run; none must in U0, where nothing is remembered; and entering a state, from whatever parameters, gives consistent ones.
+-- U0 is a state. In each state at most one timer may run; none must in U0, where nothing is remembered and nothing of a group call is kept; and entering a state, from
+-- whatever parameters, gives consistent ones.
 pub record Sound (d : Fitness) : Type 0 where
+  pub home : among U0 (d .states) ≡ true
   pub one-timer : inStates (λ s. leb (howMany (allowed d s)) 1) ≡ true
   pub quiet : timersFitBy d U0 noTimers ≡ true
   pub blank : rememberedFitBy d U0 Nothing ≡ true
+  pub still : talkFitBy d cleared ≡ true
   pub entered : inStates (λ s. ofParameters (λ p. consistentBy d s (entering s p))) ≡ true
 
 -- A timer that runs may run.
@@ -90,5 +94,5 @@ module _ (d : Fitness) (sound : Sound d) where
 
   -- The cleared context is fit.
   pub cleared-sound : fitBy d cleared ≡ true
-  unfolding cleared entering startRow isCleared
-  cleared-sound = fit-made d cleared (entering-consistent U0 (cleared .parameters)) refl refl (sound .quiet) (sound .blank)
+  unfolding cleared entering startRow setRow isCleared
+  cleared-sound = fit-made d cleared (sound .home) (entering-consistent U0 (cleared .parameters)) refl refl (sound .quiet) (sound .blank) (sound .still)

@@ -1,12 +1,15 @@
 -- Document 01, "The context": what each step table says of fitness, as data.
 use mathlib.Core.List.{List, [], _∷_}
-use mathlib.Core.Bool.{Bool}
+use mathlib.Core.Bool.{Bool, _&&_}
 use Rattle.codes.specs.declared.state.State.{State}
-use Rattle.codes.specs.declared.state.State.the-variants.{U0, U0p, U1, U3, U4, U5, U6}
+use Rattle.codes.specs.declared.state.State.the-variants.{U0, U0p, U1, U3, U4, U5, U6, U2r, U2nc}
+use Rattle.codes.specs.declared.protocol.Protocol.the-variants.{Broadcast}
+use Rattle.codes.specs.CallStates.{statesOf}
 use Rattle.codes.specs.declared.attributes.Parameters.{Parameters}
 use Rattle.timer.specs.declared.Timer.the-variants.{MmEst, Term, ConnReq, NoChannel, Pres}
 use Rattle.timer.specs.declared.Timers.{Timers}
 use Rattle.context.specs.declared.Context.{Context}
+use Rattle.context.specs.States.{among}
 use Rattle.version.specs.declared.Table.{Table}
 use Rattle.version.specs.declared.Table.the-variants.{First, Second, Third}
 use Rattle.fitness.specs.Fitness.{Fitness, Runs, always, optionally, never, ORIG, COMM, consistentBy, timersFitBy, fitBy}
@@ -29,26 +32,34 @@ rememberingStates First = []
 rememberingStates Second = U5 ∷ []
 rememberingStates Third = U5 ∷ []
 
--- The table of timers, its last column; and 6.1.2.1.11.
+-- The table of timers, its last column; and 6.1.2.1.11, which says U6 in GSM 04.69, and U2nc and U2r in 24.068.
 unfoldable pub fitnessOf : Table → Fitness
 fitnessOf table = record {
+  states = statesOf Broadcast;
   timers =
       (MmEst, (U0p, always) ∷ (U1, optionally) ∷ []) ∷
       (Term, (U5, termRuns table) ∷ []) ∷
       (ConnReq, (U4, always) ∷ []) ∷
-      (NoChannel, (U6, optionally) ∷ []) ∷
+      (NoChannel, (U6, optionally) ∷ (U2nc, always) ∷ []) ∷
       (Pres, (U3, invitationRuns table) ∷ []) ∷
       [];
   wrong =
       (ORIG, U3 ∷ U4 ∷ U6 ∷ []) ∷
-      (COMM, U0 ∷ U3 ∷ U4 ∷ U6 ∷ []) ∷
+      (COMM, U0 ∷ U3 ∷ U4 ∷ U6 ∷ U2nc ∷ U2r ∷ []) ∷
       [];
   remembering = rememberingStates table;
+  choosers = [];
+  requesting = [];
+  asked = [];
+  awaiting = [];
 }
 
 -- Consistent and fit, by a table.
 abbrev pub consistent : Table → State → Parameters → Bool
 consistent table s p = consistentBy (fitnessOf table) s p
+
+abbrev pub stateFits : Table → State → Parameters → Bool
+stateFits table s p = among s (fitnessOf table .states) && consistent table s p
 
 abbrev pub timersFit : Table → State → Timers → Bool
 timersFit table s t = timersFitBy (fitnessOf table) s t

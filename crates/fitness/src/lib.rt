@@ -4,12 +4,13 @@ ghost use mathlib.Core.Bool.{false, _&&_};
 ghost use Rattle.codes.specs.declared.state.State.the-variants.{U3, U5};
 ghost use Rattle.context.specs.States.{among};
 ghost use Rattle.context.specs.Remembered.{isSomething};
-ghost use Rattle.fitness.specs.Fitness.{obeys, consistentBy, timersFitBy, rememberedFitBy, isCleared, fitBy};
-ghost use Rattle.fitness.specs.Tables.{fitnessOf, termRuns, invitationRuns, rememberingStates};
+ghost use Rattle.fitness.specs.Fitness.{obeys, consistentBy, noneRuns, timersFitBy, rememberedFitBy, isSilent, talkFitBy, isCleared, fitBy};
+ghost use Rattle.fitness.specs.Tables.{fitnessOf, termRuns, invitationRuns, rememberingStates, stateFits};
 use codes::attributes::Parameters;
 use codes::state::State;
 use context::Context;
 use context::Remembered;
+use context::Talk;
 use timer::Timers;
 use version::Table;
 
@@ -33,6 +34,12 @@ fn fits_state(table: Table, state: State, orig: bool, comm: bool) -> bool
         State::U4 => !orig & !comm,
         State::U5 => true,
         State::U6 => !orig & !comm,
+        State::U2sl => true,
+        State::U2wr => true,
+        State::U2r => !comm,
+        State::U2ws => true,
+        State::U2sr => true,
+        State::U2nc => !comm,
     }
 }
 
@@ -56,6 +63,13 @@ fn invitation_fits(table: Table, running: bool) -> bool
         Table::Second => !running,
         Table::Third => running,
     }
+}
+
+// Whether no timer runs.
+fn none_run(timers: Timers) -> bool
+    ensures { λ r. ⌜ r ≡ noneRuns timers ⌝ }
+{
+    !timers.mmest & (!timers.term & (!timers.connreq & (!timers.nochannel & !timers.pres)))
 }
 
 // Whether the timers that run are those of U3.
@@ -82,6 +96,10 @@ fn is_something(remembered: Remembered) -> bool
         Remembered::Nothing => false,
         Remembered::U1 => true,
         Remembered::U2 => true,
+        Remembered::U2sl => true,
+        Remembered::U2wr => true,
+        Remembered::U2ws => true,
+        Remembered::U2sr => true,
     }
 }
 
@@ -96,15 +114,50 @@ fn remembers(table: Table, state: State) -> bool
     }
 }
 
-// Whether something is remembered exactly where the table has it so.
+// Whether the table has the state.
+fn has_state(table: Table, state: State) -> bool
+    ensures { λ r. ⌜ r ≡ among state (fitnessOf table .states) ⌝ }
+{
+    context::state_number(state) < 8
+}
+
+// Whether the table has the state, and the two parameters are consistent with it.
+fn state_fits(table: Table, state: State, orig: bool, comm: bool) -> bool
+    ensures { λ r. ⌜ r ≡ stateFits table state (record { orig = orig; comm = comm; datt = false; uatt = false }) ⌝ }
+{
+    let known = has_state(table, state);
+    let consistent = fits_state(table, state, orig, comm);
+    known & consistent
+}
+
+// Whether something is remembered exactly where the table has it so, and is a state of the table.
 fn remembered_fits(table: Table, state: State, remembered: Remembered) -> bool
     ensures { λ r. ⌜ r ≡ rememberedFitBy (fitnessOf table) state remembered ⌝ }
 {
     let something = is_something(remembered);
+    let from = context::returning(remembered, state);
+    let known = has_state(table, from);
     if remembers(table, state) {
-        return something;
+        return something & known;
     }
     !something
+}
+
+// Whether nothing of a group call is kept.
+fn is_silent(talk: Talk) -> bool
+    ensures { λ r. ⌜ r ≡ isSilent talk ⌝ }
+{
+    let chooser = talk.chooser;
+    let number = context::chooser_number(chooser);
+    (number == 0) & (!talk.termination & (!talk.status & !talk.awaiting))
+}
+
+// Whether what a group call keeps is as the table has it. A broadcast call keeps none of it.
+fn talk_fits(table: Table, context: Context) -> bool
+    ensures { λ r. ⌜ r ≡ talkFitBy (fitnessOf table) context ⌝ }
+{
+    let talk = context.talk;
+    is_silent(talk)
 }
 
 // Whether the timers that run are those of the state.
@@ -112,18 +165,23 @@ fn timers_fit(table: Table, state: State, timers: Timers) -> bool
     ensures { λ r. ⌜ r ≡ timersFitBy (fitnessOf table) state timers ⌝ }
 {
     match state {
-        State::U0 => !timers.mmest
-            & (!timers.term & (!timers.connreq & (!timers.nochannel & !timers.pres))),
+        State::U0 => none_run(timers),
         State::U0p => timers.mmest
             & (!timers.term & (!timers.connreq & (!timers.nochannel & !timers.pres))),
         State::U1 => !timers.term & (!timers.connreq & (!timers.nochannel & !timers.pres)),
-        State::U2 => !timers.mmest
-            & (!timers.term & (!timers.connreq & (!timers.nochannel & !timers.pres))),
+        State::U2 => none_run(timers),
         State::U3 => timers_fit_u3(table, timers),
         State::U4 => !timers.mmest
             & (!timers.term & (timers.connreq & (!timers.nochannel & !timers.pres))),
         State::U5 => timers_fit_u5(table, timers),
         State::U6 => !timers.mmest & (!timers.term & (!timers.connreq & !timers.pres)),
+        State::U2sl => none_run(timers),
+        State::U2wr => none_run(timers),
+        State::U2r => none_run(timers),
+        State::U2ws => none_run(timers),
+        State::U2sr => none_run(timers),
+        State::U2nc => !timers.mmest
+            & (!timers.term & (!timers.connreq & (timers.nochannel & !timers.pres))),
     }
 }
 
@@ -135,25 +193,27 @@ fn is_cleared(context: Context) -> bool
     let timers = context.timers;
     let reference = context.reference;
     let none_set = !parameters.orig & (!parameters.comm & (!parameters.datt & !parameters.uatt));
-    let none_runs = !timers.mmest
-        & (!timers.term & (!timers.connreq & (!timers.nochannel & !timers.pres)));
+    let none_runs = none_run(timers);
     let zero = (reference.first == 0)
         & ((reference.second == 0) & ((reference.third == 0) & (reference.fourth == 0)));
     let remembered = context.remembered;
     let something = is_something(remembered);
-    none_set & (none_runs & ((context.value == 0) & (zero & !something)))
+    let talk = context.talk;
+    let silent = is_silent(talk);
+    none_set & (none_runs & ((context.value == 0) & (zero & (!something & silent))))
 }
 
-// Whether timers and what is remembered are as the table has them.
+// Whether timers, what is remembered and what a group call keeps are as the table has them.
 fn rest_fits(table: Table, context: Context) -> bool
-    ensures { λ r. ⌜ r ≡ (timersFitBy (fitnessOf table) (context .state) (context .timers) && rememberedFitBy (fitnessOf table) (context .state) (context .remembered)) ⌝ }
+    ensures { λ r. ⌜ r ≡ (timersFitBy (fitnessOf table) (context .state) (context .timers) && (rememberedFitBy (fitnessOf table) (context .state) (context .remembered) && talkFitBy (fitnessOf table) context)) ⌝ }
 {
     let state = context.state;
     let timers = context.timers;
     let remembered = context.remembered;
     let timely = timers_fit(table, state, timers);
     let minded = remembered_fits(table, state, remembered);
-    timely & minded
+    let kept = talk_fits(table, context);
+    timely & (minded & kept)
 }
 
 // Whether the context is one that a call can be in. What U0 alone asks is looked at in U0 alone.
@@ -161,7 +221,7 @@ pub fn is_fit(table: Table, context: Context) -> bool
     ensures { λ r. ⌜ r ≡ fitBy (fitnessOf table) context ⌝ }
 {
     let state = context.state;
-    if !fits_state(
+    if !state_fits(
         table,
         state,
         context.parameters.orig,

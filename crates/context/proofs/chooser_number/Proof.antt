@@ -1,11 +1,9 @@
 -- `chooser_number` meets its contract, case by case.
 use borrow.Author.Needs.{needs}
-use Rattle.context.specs.Talk.{chooserNumber}
 use Rattle.context.proofs.chooser_number.Statement.{statement}
 use Rattle.context.proofs.chooser_number.Tie as tie
 
 pub chooser-number-spec : {M : Type 1} → statement M
-unfolding chooserNumber
 chooser-number-spec =
     tie.close
     (tie.spec
