@@ -25,7 +25,9 @@ use Rattle.transitions.specs.Table.{
   set-unless-running,
   store-value-and-reference,
   store-its-reference,
+  store-its-reference-and-originator,
   mind,
+  note,
   Row,
   row,
   stepTable,
@@ -35,7 +37,7 @@ use Rattle.transitions.specs.Table.{
 use Rattle.transitions.proofs.Every.{Test, passes}
 use Rattle.transitions.proofs.Types.{ofTypes}
 
--- The kinds of effects: what is sent, stopped, set, stored and remembered.
+-- The kinds of effects: what is sent, stopped, set, stored, remembered and noted.
 abbrev pub kindOf : Effect → ℕ
 kindOf (send m) = 0
 kindOf (stop k) = 1
@@ -43,7 +45,9 @@ kindOf (set k) = 2
 kindOf (set-unless-running k) = 2
 kindOf store-value-and-reference = 3
 kindOf store-its-reference = 3
+kindOf store-its-reference-and-originator = 3
 kindOf (mind m) = 4
+kindOf (note n) = 5
 
 abbrev pub hasKind : ℕ → List Effect → Bool
 hasKind kind [] = false

@@ -34,6 +34,8 @@ use Rattle.transitions.specs.declared.Stores.{Stores}
 use Rattle.transitions.specs.declared.Stores.the-variants as Stores
 use Rattle.transitions.specs.declared.Memory.{Memory}
 use Rattle.transitions.specs.declared.Memory.the-variants.{Keep, Remember, Forget}
+use Rattle.transitions.specs.declared.Note.{Note}
+use Rattle.transitions.specs.declared.Note.the-variants as Note
 use Rattle.transitions.specs.declared.Taken.{Taken}
 use Rattle.transitions.specs.declared.Decision.{Decision}
 use Rattle.transitions.specs.declared.Decision.the-variants.{Take, NoStep, Ignore, Report, TellStatus, SetParameters}
@@ -45,19 +47,21 @@ pub data Occasion : Type 0 where
   event : ℕ → Occasion
   message : ℕ → Occasion
 
--- What it asks of the context: nothing, ORIG true, or that a timer runs.
+-- What it asks of the context: nothing, ORIG true, that a timer runs, or that a termination request is pending.
 pub data Asked : Type 0 where
   nothing : Asked
   ORIG : Asked
   running : Timer → Asked
+  pending : Asked
 
 -- Where it holds: a state, and what is asked there.
 abbrev pub Place : Type 0
 Place = State × Asked
 
--- Its next state: a fixed one, or back to the one that is remembered.
+-- Its next state: a fixed one, the same, or back to the one that is remembered.
 pub data Next : Type 0 where
   to : State → Next
+  stay : Next
   back : Next
 
 -- Its actions: a sum, or CONNECT's, "32 if in U1 with T_MM-est, else 0".
@@ -73,7 +77,9 @@ pub data Effect : Type 0 where
   set-unless-running : Timer → Effect
   store-value-and-reference : Effect
   store-its-reference : Effect
+  store-its-reference-and-originator : Effect
   mind : Memory → Effect
+  note : Note → Effect
 
 pub data Row : Type 0 where
   row : (places : List Place) (occasion : Occasion) (next : Next) (actions : Actions) (effects : List Effect) → Row
@@ -157,11 +163,13 @@ abbrev pub met : Asked → Context → Bool
 met nothing x = true
 met ORIG x = x .parameters .orig
 met (running timer) x = isOn timer (x .timers)
+met pending x = x .talk .termination
 
 -- The next state, where something or nothing is remembered.
 abbrev pub nextState : State → Remembered → Next → State
-nextState here r (to s) = s
-nextState here r back = returning r here
+nextState s r (to next) = next
+nextState s r stay = s
+nextState s r back = returning r s
 
 abbrev pub actionsIn : State → Timers → Actions → ℕ
 actionsIn s t (act n) = n
@@ -169,15 +177,15 @@ actionsIn s t implicit = cond (same s U1 && isOn MmEst t) 32 0
 
 -- What an effect adds, where these timers run; no row has two of a kind.
 abbrev pub adding : Timers → Effect → Taken → Taken
-adding t (send m) d = record { next = d .next; actions = d .actions; sends = m; stops = d .stops; sets = d .sets; stores = d .stores; memory = d .memory }
-adding t (stop k) d = record { next = d .next; actions = d .actions; sends = d .sends; stops = k; sets = d .sets; stores = d .stores; memory = d .memory }
-adding t (set k) d = record { next = d .next; actions = d .actions; sends = d .sends; stops = d .stops; sets = k; stores = d .stores; memory = d .memory }
-adding t (set-unless-running k) d =
-    record { next = d .next; actions = d .actions; sends = d .sends; stops = d .stops; sets = cond (isOn k t) NoTimer k; stores = d .stores; memory = d .memory }
-adding t store-value-and-reference d =
-    record { next = d .next; actions = d .actions; sends = d .sends; stops = d .stops; sets = d .sets; stores = Stores.ValueAndReference; memory = d .memory }
-adding t store-its-reference d = record { next = d .next; actions = d .actions; sends = d .sends; stops = d .stops; sets = d .sets; stores = Stores.ItsReference; memory = d .memory }
-adding t (mind m) d = record { next = d .next; actions = d .actions; sends = d .sends; stops = d .stops; sets = d .sets; stores = d .stores; memory = m }
+adding t (send m) d = record { next = d .next; actions = d .actions; sends = m; stops = d .stops; sets = d .sets; stores = d .stores; memory = d .memory; note = d .note }
+adding t (stop k) d = record { next = d .next; actions = d .actions; sends = d .sends; stops = k; sets = d .sets; stores = d .stores; memory = d .memory; note = d .note }
+adding t (set k) d = record { next = d .next; actions = d .actions; sends = d .sends; stops = d .stops; sets = k; stores = d .stores; memory = d .memory; note = d .note }
+adding t (set-unless-running k) d = record { next = d .next; actions = d .actions; sends = d .sends; stops = d .stops; sets = cond (isOn k t) NoTimer k; stores = d .stores; memory = d .memory; note = d .note }
+adding t store-value-and-reference d = record { next = d .next; actions = d .actions; sends = d .sends; stops = d .stops; sets = d .sets; stores = Stores.ValueAndReference; memory = d .memory; note = d .note }
+adding t store-its-reference d = record { next = d .next; actions = d .actions; sends = d .sends; stops = d .stops; sets = d .sets; stores = Stores.ItsReference; memory = d .memory; note = d .note }
+adding t store-its-reference-and-originator d = record { next = d .next; actions = d .actions; sends = d .sends; stops = d .stops; sets = d .sets; stores = Stores.ItsReferenceAndOriginator; memory = d .memory; note = d .note }
+adding t (mind m) d = record { next = d .next; actions = d .actions; sends = d .sends; stops = d .stops; sets = d .sets; stores = d .stores; memory = m; note = d .note }
+adding t (note n) d = record { next = d .next; actions = d .actions; sends = d .sends; stops = d .stops; sets = d .sets; stores = d .stores; memory = d .memory; note = n }
 
 abbrev pub addingAll : Timers → List Effect → Taken → Taken
 addingAll t [] d = d
@@ -195,6 +203,7 @@ taken s t r next actions effects =
       sets = NoTimer;
       stores = Stores.Nothing;
       memory = Keep;
+      note = Note.Nothing;
     })
 
 -- The timers afterwards: one is stopped, one is set.
