@@ -73,7 +73,7 @@ fit-made d x known a b c e f g = and-both _ _ (and-both _ _ known a) (and-both _
 none : (b : Bool) → not b ≡ true → b ≡ false
 none b e = not-true b e
 
-nothing-remembered : (r : Remembered) → isSomething r ≡ false → r ≡ Nothing
+pub nothing-remembered : (r : Remembered) → isSomething r ≡ false → r ≡ Nothing
 nothing-remembered Nothing e = refl
 nothing-remembered U1 e = never (sym e)
 nothing-remembered U2 e = never (sym e)

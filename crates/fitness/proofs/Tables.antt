@@ -20,9 +20,9 @@ use Rattle.fitness.proofs.Sound as sound
 
 pub fitness-sound : (table : Table) → sound.Sound (fitnessOf table)
 unfolding fitnessOf timersFitBy rememberedFitBy chooserFitBy pendingFitBy talkFitBy consistentBy entering startRow setRow cleared returning
-fitness-sound First = record { home = refl; one-timer = refl; quiet = refl; blank = refl; still = refl; entered = refl }
-fitness-sound Second = record { home = refl; one-timer = refl; quiet = refl; blank = refl; still = refl; entered = refl }
-fitness-sound Third = record { home = refl; one-timer = refl; quiet = refl; blank = refl; still = refl; entered = refl }
+fitness-sound First = record { home = refl; one-timer = refl; quiet = refl; blank = refl; still = refl; entered = refl; pended = refl; sendable = refl; originating = refl }
+fitness-sound Second = record { home = refl; one-timer = refl; quiet = refl; blank = refl; still = refl; entered = refl; pended = refl; sendable = refl; originating = refl }
+fitness-sound Third = record { home = refl; one-timer = refl; quiet = refl; blank = refl; still = refl; entered = refl; pended = refl; sendable = refl; originating = refl }
 
 module _ (table : Table) where
   -- At most one timer runs in a fit context.

@@ -18,7 +18,7 @@ use Rattle.transitions.specs.declared.Decision.{Decision}
 use Rattle.transitions.specs.declared.Decision.the-variants.{Take, NoStep, Ignore, Report, TellStatus, SetParameters}
 use Rattle.transitions.specs.Table.{Row, timersAfter, decidedBy}
 use Rattle.transitions.proofs.Every.{decided-holds}
-use Rattle.transitions.proofs.Sound.{keepsFit, setsFresh, rightly, setsRightly, atMost, isPlain, sendsPlain, Sound}
+use Rattle.transitions.proofs.Sound.{keepsFit, keepsTalk, setsFresh, rightly, setsRightly, atMost, isPlain, sendsPlain, Sound}
 
 -- What holds of a row that is taken; the other decisions take none.
 abbrev pub OfTaken : (Taken → Type 0) → Decision → Type 0
@@ -51,6 +51,10 @@ abbrev pub SetRightly : Context → Taken → Type 0
 SetRightly x d =
     rightly (timerNumber (d .sets)) (runningAmong (x .timers)) (cond (same (d .next) U0) 0 (runningAmong (timersAfter d (x .timers)))) ≡ true
 
+-- The same of what a group call keeps.
+abbrev pub KeepsTalk : Fitness → Context → Taken → Type 0
+KeepsTalk fitness x d = keepsTalk fitness 0 (x .state) (x .timers) (x .remembered) d ≡ true
+
 abbrev pub Keeps : Fitness → Context → Decision → Type 0
 Keeps fitness x (Take d) = keepsFit fitness 0 (x .state) (x .timers) (x .remembered) d ≡ true
 Keeps fitness x NoStep = Unit {0}
@@ -73,6 +77,9 @@ module _ (fitness : Fitness) (most : ℕ) (table : List Row) (sound : Sound fitn
   -- What fits stays fit, as far as timers go; SET PARAMETER is not in U0, which is cleared.
   pub decided-keeps : (n code : ℕ) → Keeps fitness x (decidedBy table x n code)
   decided-keeps = decided-holds (keepsFit fitness) (λ k. Keeps fitness x) x (λ k d e. e) (λ k. tt) (λ cause. tt) table (sound .fit-kept) (λ u. tt) tt (λ u. u)
+
+  pub decided-talk : (n code : ℕ) → OfTaken (KeepsTalk fitness x) (decidedBy table x n code)
+  decided-talk = decided-holds (keepsTalk fitness) (λ k. OfTaken (KeepsTalk fitness x)) x (λ k d e. e) (λ k. tt) (λ cause. tt) table (sound .talk-kept) (λ u. tt) tt (λ u. tt)
 
   -- No timer is set anew while it runs: in a fit context a row that is taken sets none that runs.
   pub sets-fresh : fitBy fitness x ≡ true → (n code : ℕ) → OfTaken (λ d. isOn (d .sets) (x .timers) ≡ false) (decidedBy table x n code)
