@@ -1,6 +1,6 @@
 -- What sound rows decide.
 use Prim.Native.Nat.{ℕ}
-use mathlib.Core.Path.{_≡_, sym, _∙_}
+use mathlib.Core.Path.{_≡_, refl, sym, _∙_}
 use mathlib.Core.List.{List}
 use mathlib.Core.Bool.{true, false, cond}
 use lib.Dec.{eqb, leb}
@@ -63,6 +63,15 @@ Keeps fitness x (Report cause) = Unit {0}
 Keeps fitness x TellStatus = Unit {0}
 Keeps fitness x SetParameters = same (x .state) U0 ≡ false
 
+-- Only a message, event 18, sets parameters.
+abbrev pub Heard : ℕ → Decision → Type 0
+Heard n (Take d) = Unit {0}
+Heard n NoStep = Unit {0}
+Heard n Ignore = Unit {0}
+Heard n (Report cause) = Unit {0}
+Heard n TellStatus = Unit {0}
+Heard n SetParameters = eqb n 18 ≡ true
+
 module _ (fitness : Fitness) (most : ℕ) (table : List Row) (sound : Sound fitness most table) (x : Context) where
   -- Actions are at most their sum.
   pub decided-few : (n code : ℕ) → OfTaken (λ d. leb (d .actions) most ≡ true) (decidedBy table x n code)
@@ -80,6 +89,9 @@ module _ (fitness : Fitness) (most : ℕ) (table : List Row) (sound : Sound fitn
 
   pub decided-talk : (n code : ℕ) → OfTaken (KeepsTalk fitness x) (decidedBy table x n code)
   decided-talk = decided-holds (keepsTalk fitness) (λ k. OfTaken (KeepsTalk fitness x)) x (λ k d e. e) (λ k. tt) (λ cause. tt) table (sound .talk-kept) (λ u. tt) tt (λ u. tt)
+
+  pub decided-heard : (n code : ℕ) → Heard n (decidedBy table x n code)
+  decided-heard = decided-holds (atMost most) Heard x (λ k d e. tt) (λ k. tt) (λ cause. tt) table (sound .actions-few) (λ u. tt) tt (λ u. refl)
 
   -- No timer is set anew while it runs: in a fit context a row that is taken sets none that runs.
   pub sets-fresh : fitBy fitness x ≡ true → (n code : ℕ) → OfTaken (λ d. isOn (d .sets) (x .timers) ≡ false) (decidedBy table x n code)

@@ -122,8 +122,8 @@ keepsTalk fitness n s t r d =
     && ((not (same (d .next) U2ws) || among (d .next) (fitness .awaiting))
     && ((not (namesOriginator (d .stores)) || not (same s (d .next)))
     && ofChoosers (λ c.
-      not (chooserFitBy fitness s r c)
-      || chooserFitBy fitness (d .next) (rememberedAfter (d .memory) s r) (chooserAfter (d .note) c))))))))))
+    not (chooserFitBy fitness s r c)
+    || chooserFitBy fitness (d .next) (rememberedAfter (d .memory) s r) (chooserAfter (d .note) c))))))))))
 
 -- No timer is set that runs.
 abbrev pub setsFresh : Fitness → Test
