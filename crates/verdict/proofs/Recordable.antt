@@ -1,7 +1,7 @@
 -- The recorder refuses no true step: what a step answered 0 to 3 gives is in range. So the recorder never answers 4 to it, where the delta is in range
 -- and no more bytes are used than the buffer has: those two are the host's.
 use Prim.Native.Nat.{ℕ, _+_, _≤_, _<_}
-use mathlib.Core.Path.{_≡_, refl, ap, subst}
+use mathlib.Core.Path.{_≡_, refl, ap}
 use mathlib.Core.Bool.{Bool, true, false, _&&_}
 use mathlib.Core.List.{List, [], _∷_, _++_}
 use native.Mathlib.Omega.{arith}
@@ -22,7 +22,7 @@ use Rattle.radio.proofs.Reacting.{step-by}
 use Rattle.radio.proofs.Answers.{Honest, step-honest, step-short}
 use Rattle.version.specs.declared.Table.{Table}
 use Rattle.version.specs.Version.{hasEvent, greatestState, greatestActions, longest}
-use Rattle.version.proofs.Tables.{state-so, actions-so}
+use Rattle.version.proofs.Tables.{state-wide, actions-wide}
 use Rattle.octets.specs.declared.Reference.{Reference}
 use Rattle.log_data.specs.Reading.{carriesCall}
 use Rattle.log.specs.Layout.{Field, number, eventNumber, octets, allInRange, dataFields, claimFields, fields, ranged}
@@ -72,9 +72,9 @@ claim-ranged : (table : Table) (answer state parameters actions : ℕ) (reply : 
 unfolding claimFields
 claim-ranged table answer state parameters actions reply a s p c l =
     number-first 0 3 answer _ (omega arith) a
-    (number-first 0 (greatestState table) state _ (omega arith) (subst (λ m. state ≤ m) (state-so table) s)
+    (number-first 0 (greatestState table) state _ (omega arith) (omega (arith, s, state-wide table))
     (number-first 0 15 parameters _ (omega arith) p
-    (number-first 0 (greatestActions table) actions _ (omega arith) (subst (λ m. actions ≤ m) (actions-so table) c)
+    (number-first 0 (greatestActions table) actions _ (omega arith) (omega (arith, c, actions-wide table))
     (number-first 0 255 (length reply) _ (omega arith) l (octets-first reply [] none-left)))))
 
 -- ---- what a context comes to in numbers
