@@ -10,7 +10,7 @@ use borrow.Author.Tests.{eq-eqb, ne-eqb, eqb-true, leb-true}
 use Rattle.octets.proofs.Choice.{at-cond}
 use Rattle.octets.specs.declared.Reference.{Reference}
 use Rattle.version.specs.declared.Table.{Table}
-use Rattle.version.specs.Version.{greatestEvent}
+use Rattle.version.specs.Version.{hasEvent}
 use Rattle.context.specs.declared.Context.{Context}
 use Rattle.fitness.specs.Tables.{fitOf}
 use Rattle.fitness.proofs.Tables.{fit-value}
@@ -67,12 +67,12 @@ module _ (table : Table) where
 
   -- A step from a fit context ends in a fit one.
   pub react-fit : (identity : List ℕ) (x : Context) (h : Happened) (s : List ℕ) (key : ℕ) → fitOf table x ≡ true
-      → outOfRange (greatestEvent table) key (length identity) (h .number) (h .value) (h .mode) ≡ false → fitOf table (reactedTo table identity x h s .context) ≡ true
+      → outOfRange (hasEvent table (h .number)) key (length identity) (h .number) (h .value) (h .mode) ≡ false → fitOf table (reactedTo table identity x h s .context) ≡ true
   unfolding reactedTo dueTo
   react-fit identity x h s key fit range =
       settled-fit table x fit _
       (at-cond DueFit (eqb (h .number) 18) _ _ (λ e. every-due DueFit (λ reason. tt) (λ cause. tt) received-value table identity x (h .mode) s)
-      (λ e. told-fit (h .number) (h .value) (h .reference) (value-most (greatestEvent table) key (length identity) h range)))
+      (λ e. told-fit (h .number) (h .value) (h .reference) (value-most (hasEvent table (h .number)) key (length identity) h range)))
 
   -- The step by the number of its refusal.
   pub step-by : (own : Own) (identity : List ℕ) (room : ℕ) (x : Context) (h : Happened) (s : List ℕ)

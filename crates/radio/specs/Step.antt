@@ -7,7 +7,7 @@ use lib.Dec.{eqb}
 use Rattle.octets.specs.Rows.{rows}
 use Rattle.octets.specs.declared.Reference.{Reference}
 use Rattle.version.specs.declared.Table.{Table}
-use Rattle.version.specs.Version.{greatestEvent}
+use Rattle.version.specs.Version.{hasEvent}
 use Rattle.context.specs.declared.Context.{Context}
 use Rattle.fitness.specs.Tables.{fitOf}
 use Rattle.call.specs.declared.Due.{Due}
@@ -114,7 +114,7 @@ fitnessRefusal table x = cond (not (fitOf table x)) 7 0
 -- Test order for a step: 7, 5, 6, 4,
 unfoldable pub refusalOf : Table → Context → ℕ → ℕ → Happened → ℕ → ℕ → ℕ
 refusalOf table x key identity h octets room =
-    cond (eqb (fitnessRefusal table x) 0) (argumentRefusal (greatestEvent table) key identity (h .number) (h .value) (h .mode) octets room) (fitnessRefusal table x)
+    cond (eqb (fitnessRefusal table x) 0) (argumentRefusal (hasEvent table (h .number)) key identity (h .number) (h .value) (h .mode) octets room) (fitnessRefusal table x)
 
 -- then the rest.
 unfoldable pub stepOf : Table → Own → List ℕ → ℕ → Context → Happened → List ℕ → Reaction

@@ -123,9 +123,9 @@ fn refusal(
     let number = happened.number;
     let value = happened.value;
     let mode = happened.mode;
-    let greatest = version::greatest_event(table);
+    let known = version::has_event(table, number);
     let unsuited = step_arguments::argument_refusal(
-        greatest,
+        known,
         key,
         identity,
         number,
