@@ -170,7 +170,8 @@ pub fn take(
     let taken = react(table, context, identity, happened, octets);
     let after = taken.context;
     let sends = taken.sends;
-    let count = reply::put(reply, own, identity, octets, after, sends);
+    let protocol = version::protocol(table);
+    let count = reply::put(protocol, reply, own, identity, octets, after, sends);
     Stepped {
         context: after,
         outcome: Outcome {

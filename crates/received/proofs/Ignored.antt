@@ -7,13 +7,14 @@ use native.Mathlib.Omega.{arith}
 use lib.Dec.{eqb, ltb}
 use lib.ListN.{length, getD}
 use Rattle.codes.specs.declared.state.State.the-variants.{U0}
-use Rattle.codes.specs.MessageTypes.{discriminator}
+use Rattle.codes.specs.Protocol.{discriminator}
 use Rattle.codes.specs.Attributes.{parametersOf}
 use Rattle.message.specs.declared.Message.{Message}
 use Rattle.message.specs.declared.Reading.{Reading}
 use Rattle.message.specs.declared.Reading.the-variants.{Is, Unreadable, TooLong}
 use Rattle.message.specs.Reading.{readMessage}
 use Rattle.version.specs.declared.Table.{Table}
+use Rattle.version.specs.Version.{protocolOf}
 use Rattle.context.specs.declared.Context.{Context}
 use Rattle.context.specs.States.{same, flagOf}
 use Rattle.fitness.specs.Tables.{fitnessOf, consistent}
@@ -109,9 +110,9 @@ module _ (table : Table) (x : Context) where
   reason-first identity mode s =
       split (same (x .state) U0) (λ a. rw a)
       (λ a. rw a (split (ltb (length s) 2) (λ b. rw b)
-      (λ b. rw b (split (eqb (getD s 0 0 % 16) discriminator)
+      (λ b. rw b (split (eqb (getD s 0 0 % 16) (discriminator (protocolOf table)))
       (λ c. rw c (split (transactionIs (flagOf x) (x .value) (getD s 0 0))
-      (λ d. rw d (split (eqb (typeCause table x (getD s 1 0)) 0) (λ t. rw t (read-reason identity mode s a (readMessage s)))
+      (λ d. rw d (split (eqb (typeCause table x (getD s 1 0)) 0) (λ t. rw t (read-reason identity mode s a (readMessage (protocolOf table) s)))
       (λ t. rw t (reported-reason _))))
       (λ d. rw d)))
       (λ c. rw c)))))

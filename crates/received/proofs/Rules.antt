@@ -8,7 +8,8 @@ use lib.ListN.{length, getD}
 use borrow.Author.Tests.{ne-eqb}
 use Rattle.octets.proofs.Choice.{at-cond}
 use Rattle.codes.specs.declared.state.State.the-variants.{U0}
-use Rattle.codes.specs.MessageTypes.{discriminator}
+use Rattle.codes.specs.declared.protocol.Protocol.{Protocol}
+use Rattle.codes.specs.Protocol.{discriminator}
 use Rattle.octets.specs.declared.Run.{Run}
 use Rattle.message.specs.declared.Identity.{Identity}
 use Rattle.message.specs.declared.Identity.the-variants.{Present}
@@ -19,6 +20,7 @@ use Rattle.message.specs.declared.Reading.the-variants.{Is, Unreadable, TooLong
 use Rattle.message.specs.Content.{runOctets}
 use Rattle.message.specs.Reading.{readMessage}
 use Rattle.version.specs.declared.Table.{Table}
+use Rattle.version.specs.Version.{protocolOf}
 use Rattle.context.specs.declared.Context.{Context}
 use Rattle.context.specs.States.{same, flagOf}
 use Rattle.call.specs.declared.Due.{Due}
@@ -38,30 +40,30 @@ unfolding isOther
 is-named ours s named run r e p = rw (e, p)
 
 -- What rule 1 lets through.
-pub record Ours (x : Context) (s : List ℕ) : Type 0 where
+pub record Ours (protocol : Protocol) (x : Context) (s : List ℕ) : Type 0 where
   pub calling : same (x .state) U0 ≡ false
   pub two : ltb (length s) 2 ≡ false
-  pub broadcast : eqb (getD s 0 0 % 16) discriminator ≡ true
+  pub discriminated : eqb (getD s 0 0 % 16) (discriminator protocol) ≡ true
   pub transacted : transactionIs (flagOf x) (x .value) (getD s 0 0) ≡ true
 
 -- What is left after rule 1 goes by the type, and after rule 2 by what reading gives.
-module _ (table : Table) (identity : List ℕ) (x : Context) (mode : ℕ) (s : List ℕ) (ours : Ours x s) where
+module _ (table : Table) (identity : List ℕ) (x : Context) (mode : ℕ) (s : List ℕ) (ours : Ours (protocolOf table) x s) where
   pub due-typed : (cause : ℕ) → cause ≡ typeCause table x (getD s 1 0) → (cause ≡ 0 → ⊥) → Reported cause ≡ dueOf table identity x mode s
   unfolding dueOf
-  due-typed cause e n = rw (ours .calling, ours .two, ours .broadcast, ours .transacted, ← e, ne-eqb cause 0 n)
+  due-typed cause e n = rw (ours .calling, ours .two, ours .discriminated, ours .transacted, ← e, ne-eqb cause 0 n)
 
   module _ (none : typeCause table x (getD s 1 0) ≡ 0) (r : Due) where
-    pub due-read : (flag : Bool) (value : ℕ) (m : Message) → readMessage s ≡ Is flag value m → r ≡ understoodDue identity mode s m → r ≡ dueOf table identity x mode s
+    pub due-read : (flag : Bool) (value : ℕ) (m : Message) → readMessage (protocolOf table) s ≡ Is flag value m → r ≡ understoodDue identity mode s m → r ≡ dueOf table identity x mode s
     unfolding dueOf readingDue
-    due-read flag value m e p = rw (ours .calling, ours .two, ours .broadcast, ours .transacted, none, e) p
+    due-read flag value m e p = rw (ours .calling, ours .two, ours .discriminated, ours .transacted, none, e) p
 
-    pub due-wrong : (fault : Fault) → readMessage s ≡ Unreadable fault → r ≡ Reported 96 → r ≡ dueOf table identity x mode s
+    pub due-wrong : (fault : Fault) → readMessage (protocolOf table) s ≡ Unreadable fault → r ≡ Reported 96 → r ≡ dueOf table identity x mode s
     unfolding dueOf readingDue
-    due-wrong fault e p = rw (ours .calling, ours .two, ours .broadcast, ours .transacted, none, e) p
+    due-wrong fault e p = rw (ours .calling, ours .two, ours .discriminated, ours .transacted, none, e) p
 
-    pub due-long : readMessage s ≡ TooLong → r ≡ Reported 96 → r ≡ dueOf table identity x mode s
+    pub due-long : readMessage (protocolOf table) s ≡ TooLong → r ≡ Reported 96 → r ≡ dueOf table identity x mode s
     unfolding dueOf readingDue
-    due-long e p = rw (ours .calling, ours .two, ours .broadcast, ours .transacted, none, e) p
+    due-long e p = rw (ours .calling, ours .two, ours .discriminated, ours .transacted, none, e) p
 
 -- What holds of "ignored", of each report and of the step of each message holds of what is due to any octets.
 module _ (P : Due → Type 0) (ignored : (reason : Reason) → P (Ignored reason)) (reported : (cause : ℕ) → P (Reported cause)) (steps : (mode : ℕ) (m : Message) → P (Steps (Received mode m))) where
@@ -82,7 +84,7 @@ module _ (P : Due → Type 0) (ignored : (reason : Reason) → P (Ignored reason
   every-due table identity x mode s =
       at-cond P (same (x .state) U0) _ _ (λ e. ignored _)
       (λ e. at-cond P (ltb (length s) 2) _ _ (λ e. ignored _)
-      (λ e. at-cond P (not (eqb (getD s 0 0 % 16) discriminator)) _ _ (λ e. ignored _)
+      (λ e. at-cond P (not (eqb (getD s 0 0 % 16) (discriminator (protocolOf table)))) _ _ (λ e. ignored _)
       (λ e. at-cond P (not (transactionIs (flagOf x) (x .value) (getD s 0 0))) _ _ (λ e. ignored _)
       (λ e. at-cond P (not (eqb (typeCause table x (getD s 1 0)) 0)) _ _ (λ e. reported (typeCause table x (getD s 1 0)))
-      (λ e. every-read identity mode s (readMessage s))))))
+      (λ e. every-read identity mode s (readMessage (protocolOf table) s))))))

@@ -5,12 +5,13 @@ use mathlib.Core.Bool.{cond, not, _&&_}
 use lib.ListN.{length, getD}
 use lib.Dec.{eqb, ltb}
 use Rattle.codes.specs.declared.state.State.the-variants.{U0}
-use Rattle.codes.specs.MessageTypes.{discriminator}
+use Rattle.codes.specs.Protocol.{discriminator}
 use Rattle.message.specs.declared.Message.{Message}
 use Rattle.message.specs.declared.Reading.{Reading}
 use Rattle.message.specs.declared.Reading.the-variants.{Is, Unreadable, TooLong}
 use Rattle.message.specs.Reading.{readMessage}
 use Rattle.version.specs.declared.Table.{Table}
+use Rattle.version.specs.Version.{protocolOf}
 use Rattle.context.specs.declared.Context.{Context}
 use Rattle.context.specs.States.{same, flagOf}
 use Rattle.call.specs.declared.Due.{Due}
@@ -39,12 +40,12 @@ readingDue go TooLong = Reported 96
 -- The six rules in their order.
 unfoldable pub dueOf : Table → List ℕ → Context → ℕ → List ℕ → Due
 dueOf table identity x mode s =
-    -- 1. U0, under 2 octets, low four bits of octet 1 not 1, or transaction mismatch: ignored.
+    -- 1. U0, under 2 octets, low four bits of octet 1 not 1 (the protocol's discriminator), or transaction mismatch: ignored.
     cond (same (x .state) U0) (Ignored NoCall)
     (cond (ltb (length s) 2) (Ignored TooShort)
-    (cond (not (eqb (getD s 0 0 % 16) discriminator)) (Ignored OtherProtocol)
+    (cond (not (eqb (getD s 0 0 % 16) (discriminator (protocolOf table)))) (Ignored OtherProtocol)
     (cond (not (transactionIs (flagOf x) (x .value) (getD s 0 0))) (Ignored TransactionMismatch)
     -- 2. Unknown type: reported. A type with no row or sentence above in this state, or one the MS sends: reported as not compatible with the state.
     (cond (not (eqb (typeCause table x (getD s 1 0)) 0)) (Reported (typeCause table x (getD s 1 0)))
     -- 3. to 6.
-    (readingDue (understoodDue identity mode s) (readMessage s))))))
+    (readingDue (understoodDue identity mode s) (readMessage (protocolOf table) s))))))

@@ -6,12 +6,13 @@ use mathlib.Core.Bool.{Bool, true, false, cond, not, _&&_, _||_}
 use lib.ListN.{length, getD}
 use lib.Dec.{eqb, ltb}
 use Rattle.codes.specs.declared.state.State.the-variants.{U0}
-use Rattle.codes.specs.MessageTypes.{discriminator}
+use Rattle.codes.specs.Protocol.{discriminator}
 use Rattle.codes.specs.Attributes.{parametersOf}
 use Rattle.message.specs.declared.Reading.{Reading}
 use Rattle.message.specs.declared.Reading.the-variants.{Is, Unreadable, TooLong}
 use Rattle.message.specs.Reading.{readMessage}
 use Rattle.version.specs.declared.Table.{Table}
+use Rattle.version.specs.Version.{protocolOf}
 use Rattle.context.specs.declared.Context.{Context}
 use Rattle.context.specs.States.{same, flagOf}
 use Rattle.fitness.specs.Tables.{consistent}
@@ -51,10 +52,10 @@ wantsStatus table x TooLong = true
 unfoldable pub holdsOf : Table → List ℕ → Context → ℕ → List ℕ → Reason → Bool
 holdsOf table identity x mode s NoCall = same (x .state) U0
 holdsOf table identity x mode s TooShort = ltb (length s) 2
-holdsOf table identity x mode s OtherProtocol = not (eqb (getD s 0 0 % 16) discriminator)
+holdsOf table identity x mode s OtherProtocol = not (eqb (getD s 0 0 % 16) (discriminator (protocolOf table)))
 holdsOf table identity x mode s TransactionMismatch = not (transactionIs (flagOf x) (x .value) (getD s 0 0))
-holdsOf table identity x mode s OtherIdentity = eqb (typeCause table x (getD s 1 0)) 0 && namesOther identity mode s (readMessage s)
-holdsOf table identity x mode s CommFalse = not (x .parameters .comm) && (not (eqb (typeCause table x (getD s 1 0)) 0) || wantsStatus table x (readMessage s))
+holdsOf table identity x mode s OtherIdentity = eqb (typeCause table x (getD s 1 0)) 0 && namesOther identity mode s (readMessage (protocolOf table) s)
+holdsOf table identity x mode s CommFalse = not (x .parameters .comm) && (not (eqb (typeCause table x (getD s 1 0)) 0) || wantsStatus table x (readMessage (protocolOf table) s))
 
 -- Where several hold, the order of the rules decides, with "no call" first.
 abbrev pub inOrder : List Reason

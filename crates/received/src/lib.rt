@@ -8,6 +8,7 @@ ghost use Rattle.received.specs.Due.{dueOf, understoodDue};
 use call::Due;
 use call::Event;
 use call::Reason;
+use codes::protocol::discriminator;
 use context::Context;
 use message::Identity;
 use message::Message;
@@ -147,7 +148,8 @@ pub fn listen(table: Table, context: Context, identity: &[u8], mode: u8, octets:
         return Due::Ignored(Reason::TooShort);
     }
     let first = octets[0];
-    if first % 16 != 1 {
+    let protocol = version::protocol(table);
+    if first % 16 != discriminator(protocol) {
         return Due::Ignored(Reason::OtherProtocol);
     }
     let flag = context::expected_flag(context);
@@ -158,7 +160,7 @@ pub fn listen(table: Table, context: Context, identity: &[u8], mode: u8, octets:
     if cause != 0 {
         return Due::Reported(cause);
     }
-    match message::read(octets) {
+    match message::read(protocol, octets) {
         Reading::Is {
             flag: _,
             value: _,
