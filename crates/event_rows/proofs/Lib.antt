@@ -1,1 +1,2 @@
+pub mod SubStates
 pub mod Coincide

@@ -1,12 +1,13 @@
 // The step table's rows of messages, state by state: what it says of a message of a type.
 ghost use mathlib.Core.Path.{_≡_};
-ghost use Rattle.codes.specs.declared.state.State.the-variants.{U0p, U1, U2, U5};
+ghost use Rattle.codes.specs.declared.state.State.the-variants.{U0p, U1, U2, U5, U2sl};
 ghost use Rattle.codes.specs.MessageTypes.{CONNECT, TERMINATION-REJECT};
 ghost use Rattle.timer.specs.declared.Timer.the-variants.{NoTimer, Term};
 ghost use Rattle.context.specs.Remembered.{returning};
 ghost use Rattle.transitions.specs.declared.Send.the-variants.{Nothing};
 ghost use Rattle.transitions.specs.declared.Stores.the-variants as Stores;
 ghost use Rattle.transitions.specs.declared.Memory.the-variants.{Forget};
+ghost use Rattle.transitions.specs.declared.Note.the-variants as Note;
 ghost use Rattle.transitions.specs.declared.Decision.the-variants.{Take};
 ghost use Rattle.transitions.specs.Table.{stepTable, heardIn, decidedOf};
 use codes::message_type;
@@ -16,6 +17,7 @@ use context::Remembered;
 use timer::Timer;
 use transitions::Decision;
 use transitions::Memory;
+use transitions::Note;
 use transitions::Send;
 use transitions::Stores;
 use transitions::Taken;
@@ -30,6 +32,7 @@ const CONNECTED: Decision = Decision::Take(Taken {
     sets: Timer::NoTimer,
     stores: Stores::ItsReference,
     memory: Memory::Keep,
+    note: Note::Nothing,
 });
 
 // The same in U1 with T_MM-est.
@@ -41,6 +44,7 @@ const CONNECTED_IMPLICITLY: Decision = Decision::Take(Taken {
     sets: Timer::NoTimer,
     stores: Stores::ItsReference,
     memory: Memory::Keep,
+    note: Note::Nothing,
 });
 
 // TERMINATION REJECT in U5, by the first table: the radio stays there.
@@ -52,9 +56,10 @@ const REJECTED: Decision = Decision::Take(Taken {
     sets: Timer::NoTimer,
     stores: Stores::Nothing,
     memory: Memory::Keep,
+    note: Note::Nothing,
 });
 
-// TERMINATION, in all states but U0.
+// TERMINATION, in all states but U0 and the sub-states of U2.
 const TERMINATED: Decision = Decision::Take(Taken {
     next: State::U0,
     actions: 17,
@@ -63,6 +68,7 @@ const TERMINATED: Decision = Decision::Take(Taken {
     sets: Timer::NoTimer,
     stores: Stores::Nothing,
     memory: Memory::Keep,
+    note: Note::Nothing,
 });
 
 // A type that is not compatible with the state.
@@ -73,7 +79,7 @@ const UNKNOWN: Decision = Decision::Report(97);
 
 // The same from the second table on: back to where the termination was asked from.
 fn returned(remembered: Remembered) -> Decision
-    ensures { λ r. ⌜ r ≡ Take (record { next = returning remembered U5; actions = 1; sends = Nothing; stops = Term; sets = NoTimer; stores = Stores.Nothing; memory = Forget }) ⌝ }
+    ensures { λ r. ⌜ r ≡ Take (record { next = returning remembered U5; actions = 1; sends = Nothing; stops = Term; sets = NoTimer; stores = Stores.Nothing; memory = Forget; note = Note.Nothing }) ⌝ }
 {
     let next = context::returning(remembered, State::U5);
     Decision::Take(Taken {
@@ -84,6 +90,7 @@ fn returned(remembered: Remembered) -> Decision
         sets: Timer::NoTimer,
         stores: Stores::Nothing,
         memory: Memory::Forget,
+        note: Note::Nothing,
     })
 }
 
@@ -182,6 +189,24 @@ fn heard_elsewhere(table: Table, context: Context, code: u8) -> Decision
     }
 }
 
+// A message in U2sl, and so in every sub-state of U2: these tables have no row of a group call.
+fn heard_in_sub_state(table: Table, context: Context, code: u8) -> Decision
+    ensures { λ r. ⌜ r ≡ heardIn (stepTable table) U2sl context code ⌝ }
+{
+    match code {
+        message_type::IMMEDIATE_SETUP => INCOMPATIBLE,
+        message_type::SETUP => INCOMPATIBLE,
+        message_type::CONNECT => INCOMPATIBLE,
+        message_type::TERMINATION => INCOMPATIBLE,
+        message_type::TERMINATION_REQUEST => INCOMPATIBLE,
+        message_type::TERMINATION_REJECT => INCOMPATIBLE,
+        message_type::STATUS => INCOMPATIBLE,
+        message_type::GET_STATUS => Decision::TellStatus,
+        message_type::SET_PARAMETER => Decision::SetParameters,
+        0..=48 | 55..=55 | 59..=255 => UNKNOWN,
+    }
+}
+
 // What the table says of a message of a type in the context's state. It is asked before a message is read, and by itself it is small.
 pub fn decide(table: Table, context: Context, code: u8) -> Decision
     ensures { λ r. ⌜ r ≡ decidedOf table context 18 code ⌝ }
@@ -196,5 +221,11 @@ pub fn decide(table: Table, context: Context, code: u8) -> Decision
         State::U4 => heard_elsewhere(table, context, code),
         State::U5 => heard_in_u5(table, context, code),
         State::U6 => heard_elsewhere(table, context, code),
+        State::U2sl => heard_in_sub_state(table, context, code),
+        State::U2wr => heard_in_sub_state(table, context, code),
+        State::U2r => heard_in_sub_state(table, context, code),
+        State::U2ws => heard_in_sub_state(table, context, code),
+        State::U2sr => heard_in_sub_state(table, context, code),
+        State::U2nc => heard_in_sub_state(table, context, code),
     }
 }

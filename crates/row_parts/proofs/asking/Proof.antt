@@ -1,10 +1,10 @@
--- `inviting` meets its contract, table by table.
+-- `asking` meets its contract, table by table.
 use borrow.Author.Needs.{needs}
-use Rattle.event_rows.proofs.inviting.Statement.{statement}
-use Rattle.event_rows.proofs.inviting.Tie as tie
+use Rattle.row_parts.proofs.asking.Statement.{statement}
+use Rattle.row_parts.proofs.asking.Tie as tie
 
-pub inviting-spec : {M : Type 1} → statement M
-inviting-spec =
+pub asking-spec : {M : Type 1} → statement M
+asking-spec =
     tie.close
     (tie.spec
     (λ c. search needs)

@@ -1,8 +1,8 @@
 -- `forgotten` meets its contract, table by table.
 use borrow.Author.Needs.{needs}
 use Rattle.transitions.specs.Table.{stepTable, happenedIn}
-use Rattle.event_rows.proofs.forgotten.Statement.{statement}
-use Rattle.event_rows.proofs.forgotten.Tie as tie
+use Rattle.row_parts.proofs.forgotten.Statement.{statement}
+use Rattle.row_parts.proofs.forgotten.Tie as tie
 
 pub forgotten-spec : {M : Type 1} → statement M
 unfolding stepTable happenedIn

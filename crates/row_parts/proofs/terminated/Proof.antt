@@ -1,7 +1,7 @@
 -- `terminated` meets its contract, with ORIG and without.
 use borrow.Author.Needs.{needs}
-use Rattle.event_rows.proofs.terminated.Statement.{statement}
-use Rattle.event_rows.proofs.terminated.Tie as tie
+use Rattle.row_parts.proofs.terminated.Statement.{statement}
+use Rattle.row_parts.proofs.terminated.Tie as tie
 
 pub terminated-spec : {M : Type 1} → statement M
 terminated-spec =

@@ -1,7 +1,7 @@
 -- `notified` meets its contract: the timer that is set is the invitation's.
 use borrow.Author.Needs.{needs}
-use Rattle.event_rows.proofs.notified.Statement.{statement}
-use Rattle.event_rows.proofs.notified.Tie as tie
+use Rattle.row_parts.proofs.notified.Statement.{statement}
+use Rattle.row_parts.proofs.notified.Tie as tie
 
 pub notified-spec : {M : Type 1} → statement M
 notified-spec =

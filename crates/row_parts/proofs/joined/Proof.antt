@@ -1,7 +1,7 @@
 -- `joined` meets its contract: the timer that is stopped is the invitation's.
 use borrow.Author.Needs.{needs}
-use Rattle.event_rows.proofs.joined.Statement.{statement}
-use Rattle.event_rows.proofs.joined.Tie as tie
+use Rattle.row_parts.proofs.joined.Statement.{statement}
+use Rattle.row_parts.proofs.joined.Tie as tie
 
 pub joined-spec : {M : Type 1} → statement M
 joined-spec =
