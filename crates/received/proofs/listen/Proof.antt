@@ -25,25 +25,25 @@ in-call c = ne-eqb _ _ (λ e. c .if1 .left (c .before .state-number .ensures ∙
 asked : (c : tie.After-discriminator) → let start = c .before .before .before .before .before .before .before .before in c .discriminator .result ≡ discriminator (protocolOf (start .args .table))
 asked c = c .discriminator .ensures ∙ ap discriminator (c .before .protocol .ensures)
 
-ours : (c : tie.Else4) → let start = c .before .before .before .before .before .before .before .before .before .before .before .before in Ours (protocolOf (start .args .table)) (start .args .context) (start .args .octets .now)
+ours : (c : tie.Else4) → let start = c .before .before .before .before .before .before .before .before .before .before .before in Ours (protocolOf (start .args .table)) (start .args .context) (start .args .octets .now)
 ours c =
-    let third = c .before .before .before in
+    let third = c .before .before in
     let second = third .before .before .before .before in
     record {
       calling = in-call (second .before);
       two = le-ltb _ _ (second .if2 .left);
       discriminated = eq-eqb _ _ (third .if3 .left ∙ asked (third .before));
-      transacted = rw (← c .before .before .expected-flag .ensures, ← c .before .transaction-is .ensures) (not-false _ (c .if4 .left));
+      transacted = sym (c .before .transaction-fits .ensures) ∙ not-false _ (c .if4 .left);
     }
 
-typed : (c : tie.Else5) → let start = c .before .before .before .before .before .before .before .before .before .before .before .before .before .before .before in typeCause (start .args .table) (start .args .context) (getD (start .args .octets .now) 1 0) ≡ 0
+typed : (c : tie.Else5) → let start = c .before .before .before .before .before .before .before .before .before .before .before .before .before .before in typeCause (start .args .table) (start .args .context) (getD (start .args .octets .now) 1 0) ≡ 0
 typed c = sym (c .before .type-cause .ensures) ∙ c .if5 .left
 
 -- What was read is a message of the table's protocol.
-read-is : (c : tie.After-read) → let start = c .before .before .before .before .before .before .before .before .before .before .before .before .before .before .before .before in readMessage (protocolOf (start .args .table)) (start .args .octets .now) ≡ c .read .result
+read-is : (c : tie.After-read) → let start = c .before .before .before .before .before .before .before .before .before .before .before .before .before .before .before in readMessage (protocolOf (start .args .table)) (start .args .octets .now) ≡ c .read .result
 read-is c =
-    let start = c .before .before .before .before .before .before .before .before .before .before .before .before .before .before .before .before in
-    sym (c .read .ensures ∙ ap (λ (p : Protocol). readMessage p (start .args .octets .now)) (c .before .before .before .before .before .before .before .before .before .protocol .ensures))
+    let start = c .before .before .before .before .before .before .before .before .before .before .before .before .before .before .before in
+    sym (c .read .ensures ∙ ap (λ (p : Protocol). readMessage p (start .args .octets .now)) (c .before .before .before .before .before .before .before .before .protocol .ensures))
 
 state-number-requires : tie.Need-state-number-requires
 state-number-requires c κs = search needs
@@ -71,23 +71,19 @@ returns-3 c =
     let second = c .before .before .before .before in
     rw (in-call (second .before), le-ltb _ _ (second .if2 .left), ne-eqb _ _ (λ e. c .if3 .taken (e ∙ sym (asked (c .before)))))
 
-expected-flag-requires : tie.Need-expected-flag-requires
-expected-flag-requires c κs = search needs
-
-transaction-is-requires : tie.Need-transaction-is-requires
-transaction-is-requires c κs = search needs
+transaction-fits-requires : tie.Need-transaction-fits-requires
+transaction-fits-requires c κs = search needs
 
 returns-4 : tie.Need-returns-4
 unfolding dueOf
 returns-4 c =
-    let third = c .before .before .before in
+    let third = c .before .before in
     let second = third .before .before .before .before in
     rw (
       in-call (second .before),
       le-ltb _ _ (second .if2 .left),
       eq-eqb _ _ (third .if3 .left ∙ asked (third .before)),
-      ← c .before .before .expected-flag .ensures,
-      ← c .before .transaction-is .ensures,
+      ← c .before .transaction-fits .ensures,
       c .if4 .taken,
     )
 
@@ -147,8 +143,7 @@ listen-spec =
     protocol-requires
     discriminator-requires
     returns-3
-    expected-flag-requires
-    transaction-is-requires
+    transaction-fits-requires
     returns-4
     shared-slice-read-type-cause
     type-cause-requires
