@@ -1,6 +1,6 @@
 -- The rules as the code tests them: what each way of `listen` comes to, and what holds of all that may be due.
 use Prim.Native.Nat.{ℕ, _+_, _/_, _%_, _≤_}
-use mathlib.Core.Path.{_≡_}
+use mathlib.Core.Path.{_≡_, subst}
 use mathlib.Core.List.{List}
 use mathlib.Core.Bool.{Bool, true, false, not, _&&_}
 use lib.Dec.{eqb, leb, ltb}
@@ -55,9 +55,11 @@ module _ (table : Table) (identity : List ℕ) (x : Context) (mode : ℕ) (s : L
   due-typed cause e n = rw (ours .calling, ours .two, ours .discriminated, ours .transacted, ← e, ne-eqb cause 0 n)
 
   module _ (none : typeCause table x (getD s 1 0) ≡ 0) (r : Due) where
-    pub due-read : (flag : Bool) (value : ℕ) (m : Message) → readMessage (protocolOf table) s ≡ Is flag value m → r ≡ understoodDue (protocolOf table) identity mode s value m → r ≡ dueOf table identity x mode s
+    pub due-read : (flag : Bool) (value : ℕ) (m : Message) (protocol : Protocol) → protocol ≡ protocolOf table → readMessage (protocolOf table) s ≡ Is flag value m
+        → r ≡ understoodDue protocol identity mode s value m → r ≡ dueOf table identity x mode s
     unfolding dueOf readingDue
-    due-read flag value m e p = rw (ours .calling, ours .two, ours .discriminated, ours .transacted, none, e) p
+    due-read flag value m protocol q e p =
+        rw (ours .calling, ours .two, ours .discriminated, ours .transacted, none, e) (subst (λ (a : Protocol). r ≡ understoodDue a identity mode s value m) q p)
 
     pub due-wrong : (fault : Fault) → readMessage (protocolOf table) s ≡ Unreadable fault → r ≡ Reported 96 → r ≡ dueOf table identity x mode s
     unfolding dueOf readingDue

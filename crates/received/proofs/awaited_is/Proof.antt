@@ -9,7 +9,5 @@ unfolding awaitedIs
 awaited-is-spec =
     tie.close
     (tie.spec
-    (λ c. search needs)
     (λ c. rw (c .if1 .taken))
-    (λ c. search needs)
     (λ c. rw (c .if1 .left)))

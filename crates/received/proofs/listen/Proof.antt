@@ -101,11 +101,11 @@ returns-5 c =
 read-requires : tie.Need-read-requires
 read-requires c κs = search needs
 
-enum-known-message : tie.Need-enum-known-message
-enum-known-message c = search needs
+enum-known-value : tie.Need-enum-known-value
+enum-known-value c = search needs
 
 understand-requires : tie.Need-understand-requires
-understand-requires c κs = read-within _ _ _ _ _ (read-is (c .before .before .before) ∙ c .before .message .given .1)
+understand-requires c κs = read-within _ _ _ _ _ (read-is (c .before .before .before) ∙ c .before .value .given .1)
 
 enum-told : tie.Need-enum-told
 enum-told c = search needs
@@ -118,7 +118,8 @@ returns-6 c =
     let told = c .before .before in
     let reads = told .before .before in
     let fifth = reads .before in
-    due-read _ _ _ _ _ (ours (fifth .before .before .before)) (typed fifth) _ _ _ _ (read-is reads ∙ told .message .given .1) (c .understand .ensures)
+    due-read _ _ _ _ _ (ours (fifth .before .before .before)) (typed fifth) _ _ _ _ _ (reads .before .before .before .before .before .before .before .before .protocol .ensures)
+    (read-is reads ∙ told .value .given .1) (c .understand .ensures)
 
 returns-7 : tie.Need-returns-7
 returns-7 c =
@@ -149,7 +150,7 @@ listen-spec =
     type-cause-requires
     returns-5
     read-requires
-    enum-known-message
+    enum-known-value
     understand-requires
     enum-told
     enum-told-2

@@ -11,6 +11,6 @@ transaction-fits-spec =
     (tie.spec
     (λ c κs. search needs)
     (λ c κs. search needs)
-    (λ c. rw (c .before .if1 .taken, c .awaited-is .ensures))
+    (λ c. rw (c .before .if1 .taken, ← c .before .before .before .expected-flag .ensures) (c .awaited-is .ensures))
     (λ c κs. search needs)
-    (λ c. rw (c .before .if1 .left, c .transaction-is .ensures)))
+    (λ c. rw (c .before .if1 .left, ← c .before .before .before .expected-flag .ensures) (c .transaction-is .ensures)))
