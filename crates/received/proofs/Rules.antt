@@ -25,11 +25,12 @@ use Rattle.version.specs.declared.Table.{Table}
 use Rattle.version.specs.Version.{protocolOf}
 use Rattle.context.specs.declared.Context.{Context}
 use Rattle.context.specs.States.{same}
+use Rattle.context.specs.Talk.{flagOf}
 use Rattle.call.specs.declared.Due.{Due}
 use Rattle.call.specs.declared.Due.the-variants.{Steps, Ignored, Reported}
 use Rattle.call.specs.declared.Reason.{Reason}
 use Rattle.call.specs.declared.Event.the-variants.{Received}
-use Rattle.received.specs.Received.{transactionFits, typeCause, askedOf, mustNameUs, sameOctets, isOther, Within}
+use Rattle.received.specs.Received.{transactionIs, awaitedIs, transactionFits, typeCause, askedOf, mustNameUs, sameOctets, isOther, Within}
 use Rattle.received.specs.Due.{understoodDue, readingDue, dueOf}
 
 -- An identity that is named.
@@ -40,6 +41,16 @@ run-within s named run e w = rw e at w
 pub is-named : (ours s : List ℕ) (named : Identity) (run : Run) (r : Bool) → named ≡ Present run → r ≡ sameOctets (runOctets s run) ours → not r ≡ isOther ours s named
 unfolding isOther
 is-named ours s named run r e p = rw (e, p)
+
+-- Rule 1's transaction, where a value is awaited and where none is.
+module _ (x : Context) (first : ℕ) (flag r : Bool) (e : flag ≡ flagOf x) where
+  pub fits-awaited : x .talk .awaiting ≡ true → r ≡ awaitedIs flag first → r ≡ transactionFits x first
+  unfolding transactionFits flagOf
+  fits-awaited a p = rw a (subst (λ (f : Bool). r ≡ awaitedIs f first) e p)
+
+  pub fits-kept : x .talk .awaiting ≡ false → r ≡ transactionIs flag (x .value) first → r ≡ transactionFits x first
+  unfolding transactionFits flagOf
+  fits-kept a p = rw a (subst (λ (f : Bool). r ≡ transactionIs f (x .value) first) e p)
 
 -- What rule 1 lets through.
 pub record Ours (protocol : Protocol) (x : Context) (s : List ℕ) : Type 0 where
