@@ -6,14 +6,16 @@ use lib.Dec.{leb}
 use Rattle.codes.specs.declared.state.State.{State}
 use Rattle.codes.specs.declared.state.State.the-variants.{U0}
 use Rattle.codes.specs.declared.attributes.Parameters.{Parameters}
-use Rattle.timer.specs.Timers.{howMany}
+use Rattle.timer.specs.Timers.{runningAmong, withTimer, howMany}
 use Rattle.context.specs.declared.Context.{Context}
 use Rattle.context.specs.States.{same, among}
-use Rattle.context.specs.Remembered.{returning}
+use Rattle.context.specs.Remembered.{remembering, returning}
 use Rattle.context.specs.Talk.{noTalk}
 use Rattle.context.specs.Context.{startRow, setRow, entering, cleared}
 use Rattle.version.specs.declared.Table.{Table}
-use Rattle.version.specs.declared.Table.the-variants.{First, Second, Third}
+use Rattle.version.specs.declared.Table.the-variants.{First, Second, Third, Group}
+use Rattle.version.specs.Version.{protocolOf}
+use Rattle.codes.specs.declared.protocol.Protocol.the-variants.{Broadcast}
 use Rattle.fitness.specs.Fitness.{consistentBy, timersFitBy, rememberedFitBy, chooserFitBy, pendingFitBy, talkFitBy, isCleared}
 use Rattle.fitness.specs.Tables.{fitnessOf, consistent, timersFit, fitOf}
 use Rattle.fitness.proofs.Fit as any
@@ -21,10 +23,11 @@ use Rattle.fitness.proofs.Sound as sound
 use Rattle.fitness.proofs.Tested.{silent-fits}
 
 pub fitness-sound : (table : Table) → sound.Sound (fitnessOf table)
-unfolding fitnessOf timersFitBy rememberedFitBy chooserFitBy pendingFitBy talkFitBy consistentBy entering startRow setRow cleared returning
+unfolding fitnessOf protocolOf timersFitBy rememberedFitBy chooserFitBy pendingFitBy talkFitBy consistentBy entering startRow setRow cleared returning remembering runningAmong withTimer
 fitness-sound First = record { home = refl; one-timer = refl; quiet = refl; blank = refl; still = refl; entered = refl; pended = refl; sendable = refl; originating = refl }
 fitness-sound Second = record { home = refl; one-timer = refl; quiet = refl; blank = refl; still = refl; entered = refl; pended = refl; sendable = refl; originating = refl }
 fitness-sound Third = record { home = refl; one-timer = refl; quiet = refl; blank = refl; still = refl; entered = refl; pended = refl; sendable = refl; originating = refl }
+fitness-sound Group = record { home = refl; one-timer = refl; quiet = refl; blank = refl; still = refl; entered = refl; pended = refl; sendable = refl; originating = refl }
 
 module _ (table : Table) where
   -- At most one timer runs in a fit context.
@@ -52,8 +55,8 @@ module _ (table : Table) where
     fit-talk = any.fit-talk (fitnessOf table) x fit
 
     -- A broadcast call keeps nothing of a group call.
-    pub fit-silent : x .talk ≡ noTalk
-    fit-silent = any.silent-talk (x .talk) (silent-fits table x ∙ fit-talk)
+    pub fit-silent : protocolOf table ≡ Broadcast → x .talk ≡ noTalk
+    fit-silent e = any.silent-talk (x .talk) (silent-fits table x e ∙ fit-talk)
 
     -- A fit context in U0 is the cleared one.
     pub fit-u0 : x .state ≡ U0 → x ≡ cleared

@@ -4,10 +4,14 @@ ghost use mathlib.Core.Bool.{false, _&&_};
 ghost use Rattle.codes.specs.declared.state.State.the-variants.{U3, U5};
 ghost use Rattle.context.specs.States.{among};
 ghost use Rattle.context.specs.Remembered.{isSomething};
-ghost use Rattle.fitness.specs.Fitness.{obeys, consistentBy, noneRuns, timersFitBy, rememberedFitBy, isSilent, talkFitBy, isCleared, fitBy};
-ghost use Rattle.fitness.specs.Tables.{fitnessOf, termRuns, invitationRuns, rememberingStates, stateFits};
+ghost use Rattle.fitness.specs.Fitness.{obeys, consistentBy, amongChoosers, choosersIn, noneRuns, timersFitBy, rememberedFitBy, isSilent, talkFitBy, isCleared, fitBy};
+ghost use Rattle.fitness.specs.Tables.{fitnessOf, termRuns, invitationRuns, rememberingStates, choosersOf, groupPending, stateFits};
+ghost use Rattle.codes.specs.declared.protocol.Protocol.the-variants.{Group};
+ghost use Rattle.version.specs.declared.Table.the-variants as Table;
 use codes::attributes::Parameters;
+use codes::protocol::Protocol;
 use codes::state::State;
+use context::Chooser;
 use context::Context;
 use context::Remembered;
 use context::Talk;
@@ -51,6 +55,7 @@ fn term_fits(table: Table, running: bool) -> bool
         Table::First => true,
         Table::Second => running,
         Table::Third => running,
+        Table::Group => running,
     }
 }
 
@@ -62,6 +67,7 @@ fn invitation_fits(table: Table, running: bool) -> bool
         Table::First => !running,
         Table::Second => !running,
         Table::Third => running,
+        Table::Group => !running,
     }
 }
 
@@ -111,6 +117,7 @@ fn remembers(table: Table, state: State) -> bool
         Table::First => false,
         Table::Second => context::state_number(state) == 6,
         Table::Third => context::state_number(state) == 6,
+        Table::Group => context::state_number(state) == 6,
     }
 }
 
@@ -118,7 +125,11 @@ fn remembers(table: Table, state: State) -> bool
 fn has_state(table: Table, state: State) -> bool
     ensures { λ r. ⌜ r ≡ among state (fitnessOf table .states) ⌝ }
 {
-    context::state_number(state) < 8
+    let number = context::state_number(state);
+    match version::protocol(table) {
+        Protocol::Broadcast => number < 8,
+        Protocol::Group => (number != 3) & (number != 7),
+    }
 }
 
 // Whether the table has the state, and the two parameters are consistent with it.
@@ -152,12 +163,73 @@ fn is_silent(talk: Talk) -> bool
     (number == 0) & (!talk.termination & (!talk.status & !talk.awaiting))
 }
 
+// Whether who chose the value may have, in a group call's state.
+fn chooser_fits(state: State, chooser: Chooser) -> bool
+    ensures { λ r. ⌜ r ≡ amongChoosers chooser (choosersIn state (choosersOf Group)) ⌝ }
+{
+    let number = context::chooser_number(chooser);
+    match state {
+        State::U0 => number == 0,
+        State::U0p => number == 1,
+        State::U1 => number == 1,
+        State::U2 => number == 0,
+        State::U3 => number == 2,
+        State::U4 => number == 2,
+        State::U5 => number == 0,
+        State::U6 => number == 0,
+        State::U2sl => (number == 1) | (number == 2),
+        State::U2wr => (number == 1) | (number == 2),
+        State::U2r => (number == 1) | (number == 2),
+        State::U2ws => (number == 1) | (number == 2),
+        State::U2sr => (number == 1) | (number == 2),
+        State::U2nc => (number == 1) | (number == 2),
+    }
+}
+
+// Whether what is pending in a group call, and what is awaited, may be so in the state. U1 has the number 2; the sub-states of U2 have 8 and over.
+fn pending_fits(state: State, orig: bool, comm: bool, talk: Talk) -> bool
+    ensures { λ r. ⌜ r ≡ groupPending state (record { orig = orig; comm = comm; datt = false; uatt = false }) talk ⌝ }
+{
+    let number = context::state_number(state);
+    let within = 8 <= number;
+    let requesting = (number == 2) | within;
+    let asked = (number != 0) & ((number != 3) & (number != 7));
+    let request = !talk.termination | (requesting & !(orig & comm));
+    let status = !talk.status | (asked & !comm);
+    let value = !talk.awaiting | (within & !orig);
+    request & (status & value)
+}
+
+// Whether what a group call keeps is as its table has it.
+fn group_talk_fits(context: Context) -> bool
+    ensures { λ r. ⌜ r ≡ talkFitBy (fitnessOf Table.Group) context ⌝ }
+{
+    let state = context.state;
+    let remembered = context.remembered;
+    let talk = context.talk;
+    let chooser = talk.chooser;
+    let from = context::returning(remembered, state);
+    let chosen = chooser_fits(from, chooser);
+    let pending = pending_fits(
+        state,
+        context.parameters.orig,
+        context.parameters.comm,
+        talk,
+    );
+    chosen & pending
+}
+
 // Whether what a group call keeps is as the table has it. A broadcast call keeps none of it.
 fn talk_fits(table: Table, context: Context) -> bool
     ensures { λ r. ⌜ r ≡ talkFitBy (fitnessOf table) context ⌝ }
 {
     let talk = context.talk;
-    is_silent(talk)
+    match table {
+        Table::First => is_silent(talk),
+        Table::Second => is_silent(talk),
+        Table::Third => is_silent(talk),
+        Table::Group => group_talk_fits(context),
+    }
 }
 
 // Whether the timers that run are those of the state.
