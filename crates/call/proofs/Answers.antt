@@ -13,6 +13,7 @@ use Rattle.codes.specs.Attributes.{parametersOf}
 use Rattle.context.specs.declared.Context.{Context}
 use Rattle.fitness.specs.Fitness.{Fitness, consistentBy}
 use Rattle.version.specs.declared.Table.{Table}
+use Rattle.version.specs.Version.{greatestActions}
 use Rattle.fitness.specs.Tables.{fitnessOf}
 use Rattle.transitions.specs.declared.Send.{Send}
 use Rattle.transitions.specs.declared.Send.the-variants.{Nothing}
@@ -120,5 +121,5 @@ module _ (fitness : Fitness) (most : ℕ) (x : Context) where
   settled-by table sound Refused = no-step-right
 
 -- By a step table.
-pub settled-right : (table : Table) (x : Context) (due : Due) → Right 63 x (settled table x due)
-settled-right table x = settled-by (fitnessOf table) 63 x (stepTable table) (rows-sound table)
+pub settled-right : (table : Table) (x : Context) (due : Due) → Right (greatestActions table) x (settled table x due)
+settled-right table x = settled-by (fitnessOf table) (greatestActions table) x (stepTable table) (rows-sound table)

@@ -28,6 +28,7 @@ use Rattle.context.specs.States.{same, among}
 use Rattle.context.specs.Context.{entering, cleared}
 use Rattle.fitness.specs.Fitness.{Fitness, consistentBy, timersFitBy, rememberedFitBy, chooserFitBy, pendingFitBy, talkFitBy, fitBy}
 use Rattle.version.specs.declared.Table.{Table}
+use Rattle.version.specs.Version.{greatestActions}
 use Rattle.fitness.specs.Tables.{fitnessOf, consistent, fitOf}
 use Rattle.context.proofs.States.{same-state}
 use Rattle.context.specs.declared.Chooser.{Chooser}
@@ -458,7 +459,7 @@ module _ (fitness : Fitness) (most : ℕ) (table : List Row) (sound : Sound fitn
 
 -- By a step table.
 pub settled-fit : (table : Table) (x : Context) → fitOf table x ≡ true → (due : Due) → DueFit due → Fit table (settled table x due)
-settled-fit table = fit-by (fitnessOf table) 63 (stepTable table) (rows-sound table)
+settled-fit table = fit-by (fitnessOf table) (greatestActions table) (stepTable table) (rows-sound table)
 
 -- A message carries the value of its transaction.
 message-value : (value : ℕ) (m : Message) → seenMessage value m .value ≡ value

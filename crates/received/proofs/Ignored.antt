@@ -14,7 +14,7 @@ use Rattle.message.specs.declared.Reading.{Reading}
 use Rattle.message.specs.declared.Reading.the-variants.{Is, Unreadable, TooLong}
 use Rattle.message.specs.Reading.{readMessage}
 use Rattle.version.specs.declared.Table.{Table}
-use Rattle.version.specs.Version.{protocolOf}
+use Rattle.version.specs.Version.{greatestActions, protocolOf}
 use Rattle.context.specs.declared.Context.{Context}
 use Rattle.context.specs.States.{same}
 use Rattle.fitness.specs.Tables.{fitnessOf, consistent}
@@ -100,7 +100,7 @@ module _ (table : Table) (x : Context) where
       split (eqb mode 1 && isOther identity s (askedOf m .identity)) (λ e. rw e)
       (λ e. rw e
       (split (mustNameUs (protocolOf table) && askedOf m .disowns) (λ d. rw d (reported-reason 95))
-      (λ d. rw d (carried-reason _ (seenMessage value m) (decided-listens (fitnessOf table) 63 (stepTable table) (rows-sound table) x calling (seenMessage value m .number) (seenMessage value m .code))))))
+      (λ d. rw d (carried-reason _ (seenMessage value m) (decided-listens (fitnessOf table) (greatestActions table) (stepTable table) (rows-sound table) x calling (seenMessage value m .number) (seenMessage value m .code))))))
   read-reason identity mode s calling (Unreadable fault) = reported-reason 96
   read-reason identity mode s calling TooLong = reported-reason 96
 

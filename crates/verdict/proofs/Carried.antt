@@ -23,7 +23,7 @@ use Rattle.call.specs.Due.{settledBy, settled}
 use Rattle.call.specs.Events.{seenOf}
 use Rattle.call.specs.Step.{noStep, carriedOut, stepBy}
 use Rattle.codes.specs.declared.protocol.Protocol.{Protocol}
-use Rattle.version.specs.Version.{protocolOf}
+use Rattle.version.specs.Version.{greatestActions, protocolOf}
 use Rattle.reply.specs.declared.Own.{Own}
 use Rattle.reply.specs.Reply.{replyOf}
 use Rattle.step_arguments.specs.Arguments.{outOfRange, argumentRefusal}
@@ -60,7 +60,7 @@ carried-plain table x SetParameters e p = absurd p
 
 event-plain : (table : Table) (x : Context) (t : Told) → NoMessage t → PlainTaken (settled table x (toldDue t))
 unfolding settledBy toldDue stepBy noStep
-event-plain table x (Is event) h = carried-plain table x _ (seenOf event) (by-rows (fitnessOf table) 63 (stepTable table) (rows-sound table) x (seenOf event .number) (seenOf event .code) h)
+event-plain table x (Is event) h = carried-plain table x _ (seenOf event) (by-rows (fitnessOf table) (greatestActions table) (stepTable table) (rows-sound table) x (seenOf event .number) (seenOf event .code) h)
 event-plain table x NoEvent h = refl
 
 -- ---- the step
