@@ -7,7 +7,7 @@ use native.Mathlib.Omega.{arith}
 use borrow.Author.Tests.{not-true}
 use Rattle.octets.proofs.Choice.{never}
 use Rattle.codes.specs.declared.state.State.{State}
-use Rattle.codes.specs.declared.state.State.the-variants.{U0, U0p, U1, U2, U3, U4, U5, U6}
+use Rattle.codes.specs.declared.state.State.the-variants.{U0, U0p, U1, U2, U3, U4, U5, U6, U2sl, U2wr, U2r, U2ws, U2sr, U2nc}
 use Rattle.octets.specs.declared.Reference.{Reference}
 use Rattle.timer.specs.declared.Timer.the-variants.{NoTimer, ConnReq, Pres}
 use Rattle.timer.specs.Timers.{timerNumber, alone, withTimer}
@@ -16,14 +16,16 @@ use Rattle.version.specs.declared.Table.the-variants.{First, Second, Third}
 use Rattle.context.specs.declared.Context.{Context}
 use Rattle.context.specs.declared.Remembered.the-variants as Remembered
 use Rattle.context.specs.States.{same}
-use Rattle.context.specs.Context.{startRow, entering, cleared}
+use Rattle.context.specs.Context.{startRow, setRow, entering, cleared}
+use Rattle.context.specs.Talk.{noTalk}
 use Rattle.context.proofs.Whole.{and-left, and-right}
 use Rattle.fitness.specs.Fitness.{timersFitBy}
 use Rattle.fitness.specs.Tables.{fitnessOf, fitOf}
-use Rattle.fitness.proofs.Tables.{fit-timers}
+use Rattle.fitness.proofs.Tables.{fit-timers, fit-silent}
 use Rattle.transitions.specs.declared.Send.the-variants.{Nothing}
 use Rattle.transitions.specs.declared.Stores.the-variants as Stores
 use Rattle.transitions.specs.declared.Memory.the-variants.{Keep}
+use Rattle.transitions.specs.declared.Note.the-variants as Note
 use Rattle.transitions.specs.declared.Taken.{Taken}
 use Rattle.transitions.specs.declared.Decision.{Decision}
 use Rattle.transitions.specs.declared.Decision.the-variants.{Take, NoStep}
@@ -33,12 +35,13 @@ use Rattle.call.specs.declared.Event.{Event}
 use Rattle.call.specs.declared.Event.the-variants.{Join, Notified, PresExpired}
 use Rattle.call.specs.declared.Seen.{Seen}
 use Rattle.call.specs.Events.{bare, seenOf}
+use Rattle.call.specs.Talk.{noted, adopted, originating, awaitingAfter, sentIn, flushed}
 use Rattle.call.specs.Step.{parametersAfter, valueAfter, referenceAfter, afterwards, took, noStep, carriedOut, stepBy, stepValue}
 
 -- Notified: the invitation's value and reference, and T_pres alone runs.
 pub notified : (value : ℕ) (reference : Reference) → stepValue Third cleared (Notified value reference)
-    ≡ took (record { state = U3; parameters = startRow U3; timers = alone (timerNumber Pres); value = value; reference = reference; remembered = Remembered.Nothing }) 1 Nothing
-unfolding stepBy seenOf decidedBy decidedIn happenedIn stepTable carriedOut afterwards parametersAfter entering withTimer valueAfter referenceAfter cleared alone
+    ≡ took (record { state = U3; parameters = startRow U3; timers = alone (timerNumber Pres); value = value; reference = reference; remembered = Remembered.Nothing; talk = noTalk }) 1 Nothing
+unfolding stepBy seenOf decidedBy decidedIn happenedIn stepTable carriedOut afterwards parametersAfter entering startRow setRow withTimer valueAfter referenceAfter cleared alone adopted originating noted awaitingAfter flushed sentIn
 notified value reference = refl
 
 -- ---- the rows
@@ -60,10 +63,10 @@ unfolding seenOf
 seen-join = refl
 
 abbrev ends : Taken
-ends = record { next = U0; actions = 0; sends = Nothing; stops = NoTimer; sets = NoTimer; stores = Stores.Nothing; memory = Keep }
+ends = record { next = U0; actions = 0; sends = Nothing; stops = NoTimer; sets = NoTimer; stores = Stores.Nothing; memory = Keep; note = Note.Nothing }
 
 abbrev joins : Taken
-joins = record { next = U4; actions = 4; sends = Nothing; stops = Pres; sets = ConnReq; stores = Stores.Nothing; memory = Keep }
+joins = record { next = U4; actions = 4; sends = Nothing; stops = Pres; sets = ConnReq; stores = Stores.Nothing; memory = Keep; note = Note.Nothing }
 
 row-of-19 : (x : Context) → happenedIn (stepTable Third) U3 x 19 ≡ cond (x .timers .pres) (Take ends) NoStep
 unfolding happenedIn stepTable
@@ -84,6 +87,12 @@ no-row-of-19 table x U3 o = never (sym o)
 no-row-of-19 table x U4 o = refl
 no-row-of-19 table x U5 o = refl
 no-row-of-19 table x U6 o = refl
+no-row-of-19 table x U2sl o = refl
+no-row-of-19 table x U2wr o = refl
+no-row-of-19 table x U2r o = refl
+no-row-of-19 table x U2ws o = refl
+no-row-of-19 table x U2sr o = refl
+no-row-of-19 table x U2nc o = refl
 
 none-in-first : (x : Context) → happenedIn (stepTable First) U3 x 19 ≡ NoStep
 unfolding happenedIn stepTable
@@ -121,14 +130,14 @@ module _ (x : Context) (fit : fitOf Third x ≡ true) (invited : x .state ≡ U3
 
   -- "at expiry the context is cleared and U0 entered, with action 0"
   pub forgotten : stepValue Third x PresExpired ≡ took cleared 0 Nothing
-  unfolding carriedOut afterwards
+  unfolding carriedOut afterwards flushed sentIn cleared adopted
   forgotten = step-in Third x U3 PresExpired 19 seen-expiry (λ e. omega (arith, e)) invited (Take ends) (row-of-19 x ∙ rw runs-there)
 
   -- Joined: T_conn req alone runs, and the rest of the call stays.
   pub joined : stepValue Third x Join
-      ≡ took (record { state = U4; parameters = startRow U4; timers = alone (timerNumber ConnReq); value = x .value; reference = x .reference; remembered = x .remembered }) 4 Nothing
-  unfolding carriedOut afterwards parametersAfter entering withTimer valueAfter referenceAfter alone
-  joined = step-in Third x U3 Join 3 seen-join (λ e. omega (arith, e)) invited (Take joins) (row-of-3 x) ∙ rw (invited, no-mm-est, no-term, no-no-channel)
+      ≡ took (record { state = U4; parameters = startRow U4; timers = alone (timerNumber ConnReq); value = x .value; reference = x .reference; remembered = x .remembered; talk = noTalk }) 4 Nothing
+  unfolding carriedOut afterwards parametersAfter entering startRow setRow withTimer valueAfter referenceAfter alone adopted originating noted awaitingAfter flushed sentIn
+  joined = step-in Third x U3 Join 3 seen-join (λ e. omega (arith, e)) invited (Take joins) (row-of-3 x) ∙ rw (invited, fit-silent Third x fit, no-mm-est, no-term, no-no-channel)
 
 -- ---- nowhere else
 

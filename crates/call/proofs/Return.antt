@@ -13,18 +13,20 @@ use Rattle.version.specs.declared.Table.{Table}
 use Rattle.version.specs.declared.Table.the-variants.{Second, Third}
 use Rattle.context.specs.declared.Context.{Context}
 use Rattle.context.specs.declared.Remembered.the-variants as Remembered
-use Rattle.context.specs.Context.{startRow, entering}
+use Rattle.context.specs.Context.{startRow, setRow, entering}
+use Rattle.context.specs.Talk.{noTalk}
 use Rattle.context.specs.Remembered.{returning}
 use Rattle.context.proofs.Whole.{and-left, and-right}
 use Rattle.fitness.specs.Fitness.{obeys, timersFitBy}
 use Rattle.fitness.specs.Tables.{fitnessOf, termRuns, fitOf}
-use Rattle.fitness.proofs.Tables.{fit-timers}
+use Rattle.fitness.proofs.Tables.{fit-timers, fit-silent}
 use Rattle.transitions.specs.declared.Send.the-variants as Send
 use Rattle.transitions.specs.declared.Memory.the-variants.{Forget}
 use Rattle.transitions.specs.Table.{back, rejected, rejecting, stepTable, heardIn, decidedIn, decidedBy}
 use Rattle.call.specs.declared.Event.the-variants.{Received}
 use Rattle.call.specs.declared.Settled.{Settled}
 use Rattle.call.specs.Events.{seenMessage, seenOf}
+use Rattle.call.specs.Talk.{noted, adopted, originating, awaitingAfter}
 use Rattle.call.specs.Step.{parametersAfter, valueAfter, referenceAfter, afterwards, took, carriedOut, stepBy, stepValue}
 
 -- The tables in which it does.
@@ -38,9 +40,9 @@ second-leads-back = record { there = refl; forgetting = refl }
 pub third-leads-back : LeadsBack Third
 third-leads-back = record { there = refl; forgetting = refl }
 
-module _ (table : Table) (leads : LeadsBack table) (x : Context) (fit : fitOf table x ≡ true) (waiting : x .state ≡ State.U5) (mode : ℕ) (cause : Run) where
+module _ (table : Table) (leads : LeadsBack table) (x : Context) (fit : fitOf table x ≡ true) (waiting : x .state ≡ State.U5) (mode value : ℕ) (cause : Run) where
   abbrev rejection : Settled
-  rejection = stepValue table x (Received mode (TerminationReject cause))
+  rejection = stepValue table x (Received mode value (TerminationReject cause))
 
   -- The state that is returned to, with its start row.
   abbrev returned : State → Context
@@ -51,6 +53,7 @@ module _ (table : Table) (leads : LeadsBack table) (x : Context) (fit : fitOf ta
     value = x .value;
     reference = x .reference;
     remembered = Remembered.Nothing;
+    talk = noTalk;
   }
 
   timers-fit : (not (x .timers .mmest) && (obeys (termRuns table) (x .timers .term) && (not (x .timers .connreq) && (not (x .timers .nochannel) && not (x .timers .pres))))) ≡ true
@@ -74,9 +77,9 @@ module _ (table : Table) (leads : LeadsBack table) (x : Context) (fit : fitOf ta
   no-pres = not-true _ (and-right (not (x .timers .nochannel)) _ (and-right (not (x .timers .connreq)) _ others-fit))
 
   pub returns-to-u1 : x .remembered ≡ Remembered.U1 → rejection ≡ took (returned State.U1) 1 Send.Nothing
-  unfolding stepBy seenOf seenMessage decidedBy decidedIn heardIn stepTable carriedOut afterwards parametersAfter entering withTimer valueAfter referenceAfter returning
-  returns-to-u1 e = rw (waiting, e, leads .there, leads .forgetting, no-mm-est, no-conn-req, no-no-channel, no-pres)
+  unfolding stepBy seenOf seenMessage decidedBy decidedIn heardIn stepTable carriedOut afterwards parametersAfter entering withTimer valueAfter referenceAfter returning adopted originating noted awaitingAfter startRow setRow
+  returns-to-u1 e = rw (waiting, e, fit-silent table x fit, leads .there, leads .forgetting, no-mm-est, no-conn-req, no-no-channel, no-pres)
 
   pub returns-to-u2 : x .remembered ≡ Remembered.U2 → rejection ≡ took (returned State.U2) 1 Send.Nothing
-  unfolding stepBy seenOf seenMessage decidedBy decidedIn heardIn stepTable carriedOut afterwards parametersAfter entering withTimer valueAfter referenceAfter returning
-  returns-to-u2 e = rw (waiting, e, leads .there, leads .forgetting, no-mm-est, no-conn-req, no-no-channel, no-pres)
+  unfolding stepBy seenOf seenMessage decidedBy decidedIn heardIn stepTable carriedOut afterwards parametersAfter entering withTimer valueAfter referenceAfter returning adopted originating noted awaitingAfter startRow setRow
+  returns-to-u2 e = rw (waiting, e, fit-silent table x fit, leads .there, leads .forgetting, no-mm-est, no-conn-req, no-no-channel, no-pres)

@@ -7,6 +7,8 @@ use Rattle.octets.proofs.Choice.{never}
 use Rattle.codes.specs.declared.state.State.{State}
 use Rattle.codes.specs.declared.state.State.the-variants.{U0, U0p, U1, U2, U3, U4, U5, U6, U2sl, U2wr, U2r, U2ws, U2sr, U2nc}
 use Rattle.codes.specs.declared.attributes.Parameters.{Parameters}
+use Rattle.context.specs.declared.Chooser.{Chooser}
+use Rattle.context.specs.declared.Chooser.the-variants.{Neither, Us, Cell}
 use Rattle.context.specs.declared.Remembered.{Remembered}
 use Rattle.context.specs.States.{same, among}
 use Rattle.context.proofs.States.{same-state}
@@ -64,3 +66,12 @@ at-remembered P e Remembered.U2sl = and-left (P Remembered.U2sl) _ (and-right (P
 at-remembered P e Remembered.U2wr = and-left (P Remembered.U2wr) _ (and-right (P Remembered.U2sl) _ (and-right (P Remembered.U2) _ (and-right (P Remembered.U1) _ (and-right (P Remembered.Nothing) _ e))))
 at-remembered P e Remembered.U2ws = and-left (P Remembered.U2ws) _ (and-right (P Remembered.U2wr) _ (and-right (P Remembered.U2sl) _ (and-right (P Remembered.U2) _ (and-right (P Remembered.U1) _ (and-right (P Remembered.Nothing) _ e)))))
 at-remembered P e Remembered.U2sr = and-right (P Remembered.U2ws) _ (and-right (P Remembered.U2wr) _ (and-right (P Remembered.U2sl) _ (and-right (P Remembered.U2) _ (and-right (P Remembered.U1) _ (and-right (P Remembered.Nothing) _ e)))))
+
+-- The test holds whoever chose the value.
+abbrev pub ofChoosers : (Chooser → Bool) → Bool
+ofChoosers P = P Neither && (P Us && P Cell)
+
+pub at-chooser : (P : Chooser → Bool) → ofChoosers P ≡ true → (c : Chooser) → P c ≡ true
+at-chooser P e Neither = and-left (P Neither) _ e
+at-chooser P e Us = and-left (P Us) _ (and-right (P Neither) _ e)
+at-chooser P e Cell = and-right (P Us) _ (and-right (P Neither) _ e)

@@ -15,10 +15,11 @@ use Rattle.context.specs.declared.Chooser.{Chooser}
 use Rattle.context.specs.declared.Chooser.the-variants.{Neither, Us, Cell}
 use Rattle.context.specs.Remembered.{isSomething}
 use Rattle.context.specs.States.{same, among}
-use Rattle.context.specs.Talk.{chooserNumber}
+use Rattle.context.specs.declared.Talk.{Talk}
+use Rattle.context.specs.Talk.{noTalk, chooserNumber}
 use Rattle.context.specs.Context.{cleared}
 use Rattle.context.proofs.Whole.{and-left, and-right, and-both, if-so}
-use Rattle.fitness.specs.Fitness.{Fitness, consistentBy, timersFitBy, rememberedFitBy, chooserFitBy, pendingFitBy, talkFitBy, isCleared, fitBy}
+use Rattle.fitness.specs.Fitness.{Fitness, consistentBy, timersFitBy, rememberedFitBy, chooserFitBy, pendingFitBy, talkFitBy, isSilent, isCleared, fitBy}
 
 -- The parts of fitness.
 module _ (d : Fitness) (x : Context) (fit : fitBy d x ≡ true) where
@@ -73,7 +74,7 @@ fit-made d x known a b c e f g = and-both _ _ (and-both _ _ known a) (and-both _
 none : (b : Bool) → not b ≡ true → b ≡ false
 none b e = not-true b e
 
-nothing-remembered : (r : Remembered) → isSomething r ≡ false → r ≡ Nothing
+pub nothing-remembered : (r : Remembered) → isSomething r ≡ false → r ≡ Nothing
 nothing-remembered Nothing e = refl
 nothing-remembered U1 e = never (sym e)
 nothing-remembered U2 e = never (sym e)
@@ -86,6 +87,18 @@ chosen-by-neither : (c : Chooser) → eqb (chooserNumber c) 0 ≡ true → c ≡
 chosen-by-neither Neither e = refl
 chosen-by-neither Us e = never e
 chosen-by-neither Cell e = never e
+
+-- Where nothing of a group call is kept.
+pub silent-talk : (k : Talk) → isSilent k ≡ true → k ≡ noTalk
+silent-talk k e =
+    let e1 = and-right (eqb (chooserNumber (k .chooser)) 0) _ e in
+    let e2 = and-right (not (k .termination)) _ e1 in
+    rw (
+      chosen-by-neither (k .chooser) (and-left (eqb (chooserNumber (k .chooser)) 0) _ e),
+      none (k .termination) (and-left (not (k .termination)) _ e1),
+      none (k .status) (and-left (not (k .status)) _ e2),
+      none (k .awaiting) (and-right (not (k .status)) _ e2),
+    )
 
 -- A fit context in U0 is the cleared one.
 pub fit-u0 : (d : Fitness) (x : Context) → fitBy d x ≡ true → x .state ≡ U0 → x ≡ cleared
@@ -102,8 +115,6 @@ fit-u0 d x fit e =
     let v = and-right (eqb (x .reference .first) 0 && (eqb (x .reference .second) 0 && (eqb (x .reference .third) 0 && eqb (x .reference .fourth) 0))) _ w in
     let m = and-left (not (isSomething (x .remembered))) _ v in
     let k = and-right (not (isSomething (x .remembered))) _ v in
-    let k1 = and-right (eqb (chooserNumber (x .talk .chooser)) 0) _ k in
-    let k2 = and-right (not (x .talk .termination)) _ k1 in
     let p1 = and-right (not (x .parameters .orig)) _ p in
     let p2 = and-right (not (x .parameters .comm)) _ p1 in
     let t1 = and-right (not (x .timers .mmest)) _ t in
@@ -128,8 +139,5 @@ fit-u0 d x fit e =
       eqb-true (x .reference .third) 0 (and-left (eqb (x .reference .third) 0) _ z2),
       eqb-true (x .reference .fourth) 0 (and-right (eqb (x .reference .third) 0) _ z2),
       nothing-remembered (x .remembered) (none (isSomething (x .remembered)) m),
-      chosen-by-neither (x .talk .chooser) (and-left (eqb (chooserNumber (x .talk .chooser)) 0) _ k),
-      none (x .talk .termination) (and-left (not (x .talk .termination)) _ k1),
-      none (x .talk .status) (and-left (not (x .talk .status)) _ k2),
-      none (x .talk .awaiting) (and-right (not (x .talk .status)) _ k2),
+      silent-talk (x .talk) k,
     )

@@ -1,6 +1,6 @@
 -- Document 01's descriptor passes the tests, and what follows.
 use Prim.Native.Nat.{_≤_}
-use mathlib.Core.Path.{_≡_, refl}
+use mathlib.Core.Path.{_≡_, refl, _∙_}
 use mathlib.Core.Bool.{true, not, _||_}
 use lib.Dec.{leb}
 use Rattle.codes.specs.declared.state.State.{State}
@@ -10,6 +10,7 @@ use Rattle.timer.specs.Timers.{howMany}
 use Rattle.context.specs.declared.Context.{Context}
 use Rattle.context.specs.States.{same, among}
 use Rattle.context.specs.Remembered.{returning}
+use Rattle.context.specs.Talk.{noTalk}
 use Rattle.context.specs.Context.{startRow, setRow, entering, cleared}
 use Rattle.version.specs.declared.Table.{Table}
 use Rattle.version.specs.declared.Table.the-variants.{First, Second, Third}
@@ -17,12 +18,13 @@ use Rattle.fitness.specs.Fitness.{consistentBy, timersFitBy, rememberedF
 use Rattle.fitness.specs.Tables.{fitnessOf, consistent, timersFit, fitOf}
 use Rattle.fitness.proofs.Fit as any
 use Rattle.fitness.proofs.Sound as sound
+use Rattle.fitness.proofs.Tested.{silent-fits}
 
 pub fitness-sound : (table : Table) → sound.Sound (fitnessOf table)
 unfolding fitnessOf timersFitBy rememberedFitBy chooserFitBy pendingFitBy talkFitBy consistentBy entering startRow setRow cleared returning
-fitness-sound First = record { home = refl; one-timer = refl; quiet = refl; blank = refl; still = refl; entered = refl }
-fitness-sound Second = record { home = refl; one-timer = refl; quiet = refl; blank = refl; still = refl; entered = refl }
-fitness-sound Third = record { home = refl; one-timer = refl; quiet = refl; blank = refl; still = refl; entered = refl }
+fitness-sound First = record { home = refl; one-timer = refl; quiet = refl; blank = refl; still = refl; entered = refl; pended = refl; sendable = refl; originating = refl }
+fitness-sound Second = record { home = refl; one-timer = refl; quiet = refl; blank = refl; still = refl; entered = refl; pended = refl; sendable = refl; originating = refl }
+fitness-sound Third = record { home = refl; one-timer = refl; quiet = refl; blank = refl; still = refl; entered = refl; pended = refl; sendable = refl; originating = refl }
 
 module _ (table : Table) where
   -- At most one timer runs in a fit context.
@@ -48,6 +50,10 @@ module _ (table : Table) where
 
     pub fit-talk : talkFitBy (fitnessOf table) x ≡ true
     fit-talk = any.fit-talk (fitnessOf table) x fit
+
+    -- A broadcast call keeps nothing of a group call.
+    pub fit-silent : x .talk ≡ noTalk
+    fit-silent = any.silent-talk (x .talk) (silent-fits table x ∙ fit-talk)
 
     -- A fit context in U0 is the cleared one.
     pub fit-u0 : x .state ≡ U0 → x ≡ cleared

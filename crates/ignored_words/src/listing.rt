@@ -1,6 +1,7 @@
 // A log's entries from a cleared context on, each taken through its step once more: a line for each whose message is ignored, and how many are for each reason.
 use crate::reason::tell_particulars;
 use crate::reason::tell_reason;
+use codes::protocol::Protocol;
 use context::Context;
 use context::state_number;
 use fields::fault_number;
@@ -128,7 +129,7 @@ fn tell_kind(octets: &[u8]) {
 
 // The number of a message's fault, and 0 where it has none. No log holds a message that is too long.
 fn fault_of(octets: &[u8]) -> u8 {
-    match message::read(octets) {
+    match message::read(Protocol::Broadcast, octets) {
         Reading::Is {
             flag: _,
             value: _,

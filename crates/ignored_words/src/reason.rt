@@ -1,4 +1,5 @@
 // Why a message is ignored, in words: the number and the name of the reason, and what the message has beside what the call has.
+use codes::protocol::Protocol;
 use context::Context;
 use context::expected_flag;
 use fields::octet_at;
@@ -67,7 +68,7 @@ fn tell_identities(octets: &[u8], identity: &[u8]) {
         flag: _,
         value: _,
         message,
-    } = message::read(octets)
+    } = message::read(Protocol::Broadcast, octets)
     else {
         return;
     };

@@ -1,6 +1,7 @@
 // A message within a line: its kind, its transaction and its main fields.
 use crate::faults::tell_fault;
 use codes::attributes::parameters_of;
+use codes::protocol::Protocol;
 use codes::state::CallState;
 use codes::state::call_state_of;
 use fields::fault_number;
@@ -21,9 +22,9 @@ use saying::tell_number;
 use saying::tell_place;
 use text::words::part;
 
-// Tells a message, without a line end.
+// Tells a message of a broadcast call, without a line end.
 pub fn tell_briefly(octets: &[u8]) {
-    match message::read(octets) {
+    match message::read(Protocol::Broadcast, octets) {
         Reading::TooLong => tell_too_long(octets),
         Reading::Unreadable(fault) => tell_unreadable(octets, fault),
         Reading::Is {

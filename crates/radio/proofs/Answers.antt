@@ -8,6 +8,7 @@ use lib.ListN.{length}
 use borrow.Author.Tests.{leb-true}
 use Rattle.codes.specs.declared.state.State.the-variants.{U0}
 use Rattle.version.specs.declared.Table.{Table}
+use Rattle.version.specs.Version.{protocolOf}
 use Rattle.context.specs.declared.Context.{Context}
 use Rattle.context.specs.Context.{cleared}
 use Rattle.fitness.specs.Tables.{fitOf}
@@ -17,6 +18,7 @@ use Rattle.transitions.specs.declared.Send.the-variants.{Nothing}
 use Rattle.call.specs.declared.Settled.{Settled}
 use Rattle.call.proofs.Answers.{Right, settled-right}
 use Rattle.reply.specs.declared.Own.{Own}
+use Rattle.codes.specs.declared.protocol.Protocol.{Protocol}
 use Rattle.reply.specs.Reply.{replyOf}
 use Rattle.reply.proofs.Fits.{reply-short}
 use Rattle.radio.specs.declared.Happened.{Happened}
@@ -46,16 +48,16 @@ refused-honest x answer most other = record {
   untold = λ n. refl;
 }
 
-unsent : (own : Own) (identity s : List ℕ) (x : Context) (sends : Send) → sends ≡ Nothing → replyOf own identity s x sends ≡ []
+unsent : (protocol : Protocol) (own : Own) (identity s : List ℕ) (x : Context) (sends : Send) → sends ≡ Nothing → replyOf protocol own identity s x sends ≡ []
 unfolding replyOf
-unsent own identity s x sends e = rw e
+unsent protocol own identity s x sends e = rw e
 
-reacted-honest : (own : Own) (identity s : List ℕ) (x : Context) (t : Settled) → Right 63 x t → Honest x (reacted own identity s t)
-reacted-honest own identity s x t r = record {
+reacted-honest : (protocol : Protocol) (own : Own) (identity s : List ℕ) (x : Context) (t : Settled) → Right 63 x t → Honest x (reacted protocol own identity s t)
+reacted-honest protocol own identity s x t r = record {
   numbered = omega (arith, r .numbered);
   kept = r .kept;
   still = r .still;
-  silent = λ n m. unsent own identity s (t .context) (t .sends) (r .silent n m);
+  silent = λ n m. unsent protocol own identity s (t .context) (t .sends) (r .silent n m);
   few = r .few;
   told = r .told;
   untold = r .untold;
@@ -71,7 +73,7 @@ module _ (table : Table) where
   pub step-honest : (own : Own) (identity : List ℕ) (room : ℕ) (x : Context) (h : Happened) (s : List ℕ) → Honest x (stepOf table own identity room x h s)
   step-honest own identity room x h s =
       of-step table own identity room x h s (Honest x) (refused-honest x _ (refused-most table x (own .key) (length identity) h (length s) room) (refused-not-1 table x (own .key) (length identity) h (length s) room))
-      (λ o. reacted-honest own identity s x (reactedTo table identity x h s) (react-right identity x h s))
+      (λ o. reacted-honest (protocolOf table) own identity s x (reactedTo table identity x h s) (react-right identity x h s))
 
   -- A step from a fit context ends in a fit one.
   pub step-keeps-fit : (own : Own) (identity : List ℕ) (room : ℕ) (x : Context) (h : Happened) (s : List ℕ) → fitOf table x ≡ true
@@ -93,4 +95,4 @@ module _ (table : Table) where
       of-step table own identity room x h s Short (omega arith)
       (λ o.
       let t : Settled = reactedTo table identity x h s in
-      reply-short (t .context) (leb-true _ _ (fit-value table (t .context) (react-fit table identity x h s (own .key) (o .fit) (o .range)))) own identity s (t .sends) (o .known) (o .least) (o .most))
+      reply-short (protocolOf table) (t .context) (leb-true _ _ (fit-value table (t .context) (react-fit table identity x h s (own .key) (o .fit) (o .range)))) own identity s (t .sends) (o .known) (o .least) (o .most))

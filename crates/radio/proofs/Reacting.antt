@@ -10,7 +10,7 @@ use borrow.Author.Tests.{eq-eqb, ne-eqb, eqb-true, leb-true}
 use Rattle.octets.proofs.Choice.{at-cond}
 use Rattle.octets.specs.declared.Reference.{Reference}
 use Rattle.version.specs.declared.Table.{Table}
-use Rattle.version.specs.Version.{greatestEvent}
+use Rattle.version.specs.Version.{hasEvent, protocolOf}
 use Rattle.context.specs.declared.Context.{Context}
 use Rattle.fitness.specs.Tables.{fitOf}
 use Rattle.fitness.proofs.Tables.{fit-value}
@@ -22,6 +22,7 @@ use Rattle.call.specs.Due.{settled}
 use Rattle.call.specs.Events.{bare, carrying}
 use Rattle.call.proofs.Kept.{DueFit, received-value, settled-fit}
 use Rattle.reply.specs.declared.Own.{Own}
+use Rattle.codes.specs.declared.protocol.Protocol.{Protocol}
 use Rattle.reply.specs.Reply.{replyOf, putOf}
 use Rattle.reply.proofs.Fits.{put-is-reply}
 use Rattle.received.specs.Due.{dueOf}
@@ -67,24 +68,24 @@ module _ (table : Table) where
 
   -- A step from a fit context ends in a fit one.
   pub react-fit : (identity : List ℕ) (x : Context) (h : Happened) (s : List ℕ) (key : ℕ) → fitOf table x ≡ true
-      → outOfRange (greatestEvent table) key (length identity) (h .number) (h .value) (h .mode) ≡ false → fitOf table (reactedTo table identity x h s .context) ≡ true
+      → outOfRange (hasEvent table (h .number)) key (length identity) (h .number) (h .value) (h .mode) ≡ false → fitOf table (reactedTo table identity x h s .context) ≡ true
   unfolding reactedTo dueTo
   react-fit identity x h s key fit range =
       settled-fit table x fit _
       (at-cond DueFit (eqb (h .number) 18) _ _ (λ e. every-due DueFit (λ reason. tt) (λ cause. tt) received-value table identity x (h .mode) s)
-      (λ e. told-fit (h .number) (h .value) (h .reference) (value-most (greatestEvent table) key (length identity) h range)))
+      (λ e. told-fit (h .number) (h .value) (h .reference) (value-most (hasEvent table (h .number)) key (length identity) h range)))
 
   -- The step by the number of its refusal.
   pub step-by : (own : Own) (identity : List ℕ) (room : ℕ) (x : Context) (h : Happened) (s : List ℕ)
       → stepOf table own identity room x h s
-      ≡ (let n : ℕ = refusalOf table x (own .key) (length identity) h (length s) room in cond (eqb n 0) (reacted own identity s (reactedTo table identity x h s)) (refused n x))
+      ≡ (let n : ℕ = refusalOf table x (own .key) (length identity) h (length s) room in cond (eqb n 0) (reacted (protocolOf table) own identity s (reactedTo table identity x h s)) (refused n x))
   unfolding stepOf
   step-by own identity room x h s = refl
 
   -- What holds of each refusal, and of the step where none refuses, holds of the step.
   module _ (own : Own) (identity : List ℕ) (room : ℕ) (x : Context) (h : Happened) (s : List ℕ) (P : Reaction → Type 0) where
     pub of-step : P (refused (refusalOf table x (own .key) (length identity) h (length s) room) x)
-        → (InRange table x (own .key) (length identity) h (length s) room → P (reacted own identity s (reactedTo table identity x h s)))
+        → (InRange table x (own .key) (length identity) h (length s) room → P (reacted (protocolOf table) own identity s (reactedTo table identity x h s)))
         → P (stepOf table own identity room x h s)
     unfolding stepOf
     of-step no-way yes-way =
@@ -103,11 +104,11 @@ module _ (table : Table) where
     Taking r after =
         (r ≡ shown (takenOf table own identity (length d) x h s)) × (after ≡ sets d 0 (takenOf table own identity (length d) x h s .reply))
 
-    pub takes : (t : Settled) → t ≡ reactedTo table identity x h s → (n : ℕ) (after : List ℕ)
-        → (n ≡ length (putOf (length d) own identity s (t .context) (t .sends))) × (after ≡ sets d 0 (putOf (length d) own identity s (t .context) (t .sends)))
+    pub takes : (t : Settled) → t ≡ reactedTo table identity x h s → (protocol : Protocol) → protocol ≡ protocolOf table → (n : ℕ) (after : List ℕ)
+        → (n ≡ length (putOf protocol (length d) own identity s (t .context) (t .sends))) × (after ≡ sets d 0 (putOf protocol (length d) own identity s (t .context) (t .sends)))
         → Taking (record { context = t .context; outcome = record { answer = t .answer; reason = t .reason; actions = t .actions; count = n } }) after
     unfolding takenOf
-    takes t p n after w = rw (← p) (rw (w .0), w .1)
+    takes t p protocol q n after w = rw (← p, ← q) (rw (w .0), w .1)
 
     -- The two ways of the step, as the code goes them.
     abbrev pub Stepping : Stepped → List ℕ → Type 0
@@ -125,8 +126,8 @@ module _ (table : Table) where
         let o : InRange table x (own .key) (length identity) h (length s) (length d) = in-range table x _ _ h _ _ z in
         let t : Settled = reactedTo table identity x h s in
         let f : fitOf table (t .context) ≡ true = react-fit identity x h s (own .key) (o .fit) (o .range) in
-        let l : putOf (length d) own identity s (t .context) (t .sends) ≡ replyOf own identity s (t .context) (t .sends)
-        = put-is-reply (t .context) (leb-true _ _ (fit-value table (t .context) f)) (length d) own identity s (t .sends) (o .big) (o .known) (o .least) (o .most) in
+        let l : putOf (protocolOf table) (length d) own identity s (t .context) (t .sends) ≡ replyOf (protocolOf table) own identity s (t .context) (t .sends)
+        = put-is-reply (protocolOf table) (t .context) (leb-true _ _ (fit-value table (t .context) f)) (length d) own identity s (t .sends) (o .big) (o .known) (o .least) (o .most) in
         rw l (sym (step-by own identity (length d) x h s ∙ rw z))
 
     pub is-taken : (a : ℕ) → a ≡ why → a ≡ 0 → (r : Stepped) (after : List ℕ) → Taking r after → Stepping r after

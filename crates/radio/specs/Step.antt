@@ -6,8 +6,9 @@ use lib.ListN.{length}
 use lib.Dec.{eqb}
 use Rattle.octets.specs.Rows.{rows}
 use Rattle.octets.specs.declared.Reference.{Reference}
+use Rattle.codes.specs.declared.protocol.Protocol.{Protocol}
 use Rattle.version.specs.declared.Table.{Table}
-use Rattle.version.specs.Version.{greatestEvent}
+use Rattle.version.specs.Version.{hasEvent, protocolOf}
 use Rattle.context.specs.declared.Context.{Context}
 use Rattle.fitness.specs.Tables.{fitOf}
 use Rattle.call.specs.declared.Due.{Due}
@@ -97,13 +98,13 @@ abbrev pub refused : ℕ → Context → Reaction
 refused answer x = record { answer = answer; reason = 0; context = x; actions = 0; reply = [] }
 
 -- A step that is not refused, with what it sends as octets.
-abbrev pub reacted : Own → List ℕ → List ℕ → Settled → Reaction
-reacted own identity s taken = record {
+abbrev pub reacted : Protocol → Own → List ℕ → List ℕ → Settled → Reaction
+reacted protocol own identity s taken = record {
   answer = taken .answer;
   reason = taken .reason;
   context = taken .context;
   actions = taken .actions;
-  reply = replyOf own identity s (taken .context) (taken .sends);
+  reply = replyOf protocol own identity s (taken .context) (taken .sends);
 }
 
 -- Why a step is refused, as the answer's number, and 0 where it is not; in two parts. The first: 7, the context is not fit.
@@ -114,13 +115,13 @@ fitnessRefusal table x = cond (not (fitOf table x)) 7 0
 -- Test order for a step: 7, 5, 6, 4,
 unfoldable pub refusalOf : Table → Context → ℕ → ℕ → Happened → ℕ → ℕ → ℕ
 refusalOf table x key identity h octets room =
-    cond (eqb (fitnessRefusal table x) 0) (argumentRefusal (greatestEvent table) key identity (h .number) (h .value) (h .mode) octets room) (fitnessRefusal table x)
+    cond (eqb (fitnessRefusal table x) 0) (argumentRefusal (hasEvent table (h .number)) key identity (h .number) (h .value) (h .mode) octets room) (fitnessRefusal table x)
 
 -- then the rest.
 unfoldable pub stepOf : Table → Own → List ℕ → ℕ → Context → Happened → List ℕ → Reaction
 stepOf table own identity room x h s =
     let refusal : ℕ = refusalOf table x (own .key) (length identity) h (length s) room in
-    cond (eqb refusal 0) (reacted own identity s (reactedTo table identity x h s)) (refused refusal x)
+    cond (eqb refusal 0) (reacted (protocolOf table) own identity s (reactedTo table identity x h s)) (refused refusal x)
 
 -- The step without its tests, for any arguments: the reply is what the lent buffer takes. Where no test refuses it is the step.
 unfoldable pub takenOf : Table → Own → List ℕ → ℕ → Context → Happened → List ℕ → Reaction
@@ -131,7 +132,7 @@ takenOf table own identity room x h s =
       reason = taken .reason;
       context = taken .context;
       actions = taken .actions;
-      reply = putOf room own identity s (taken .context) (taken .sends);
+      reply = putOf (protocolOf table) room own identity s (taken .context) (taken .sends);
     }
 
 -- A reaction as the code's result: the reply's octets stand in the buffer, and the result has their count.

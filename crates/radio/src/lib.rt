@@ -123,9 +123,9 @@ fn refusal(
     let number = happened.number;
     let value = happened.value;
     let mode = happened.mode;
-    let greatest = version::greatest_event(table);
+    let known = version::has_event(table, number);
     let unsuited = step_arguments::argument_refusal(
-        greatest,
+        known,
         key,
         identity,
         number,
@@ -170,7 +170,8 @@ pub fn take(
     let taken = react(table, context, identity, happened, octets);
     let after = taken.context;
     let sends = taken.sends;
-    let count = reply::put(reply, own, identity, octets, after, sends);
+    let protocol = version::protocol(table);
+    let count = reply::put(protocol, reply, own, identity, octets, after, sends);
     Stepped {
         context: after,
         outcome: Outcome {

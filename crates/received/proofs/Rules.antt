@@ -1,14 +1,15 @@
 -- The rules as the code tests them: what each way of `listen` comes to, and what holds of all that may be due.
-use Prim.Native.Nat.{ℕ, _+_, _%_, _≤_}
+use Prim.Native.Nat.{ℕ, _+_, _/_, _%_, _≤_}
 use mathlib.Core.Path.{_≡_}
 use mathlib.Core.List.{List}
 use mathlib.Core.Bool.{Bool, true, false, not, _&&_}
-use lib.Dec.{eqb, ltb}
+use lib.Dec.{eqb, leb, ltb}
 use lib.ListN.{length, getD}
-use borrow.Author.Tests.{ne-eqb}
+use borrow.Author.Tests.{ne-eqb, not-false}
 use Rattle.octets.proofs.Choice.{at-cond}
 use Rattle.codes.specs.declared.state.State.the-variants.{U0}
-use Rattle.codes.specs.MessageTypes.{discriminator}
+use Rattle.codes.specs.declared.protocol.Protocol.{Protocol}
+use Rattle.codes.specs.Protocol.{discriminator}
 use Rattle.octets.specs.declared.Run.{Run}
 use Rattle.message.specs.declared.Identity.{Identity}
 use Rattle.message.specs.declared.Identity.the-variants.{Present}
@@ -17,15 +18,18 @@ use Rattle.message.specs.declared.Fault.{Fault}
 use Rattle.message.specs.declared.Reading.{Reading}
 use Rattle.message.specs.declared.Reading.the-variants.{Is, Unreadable, TooLong}
 use Rattle.message.specs.Content.{runOctets}
-use Rattle.message.specs.Reading.{readMessage}
+use Rattle.message.specs.declared.Body.{Body}
+use Rattle.message.specs.declared.Body.the-variants as Body
+use Rattle.message.specs.Reading.{bodyOf, readAs, readMessage}
 use Rattle.version.specs.declared.Table.{Table}
+use Rattle.version.specs.Version.{protocolOf}
 use Rattle.context.specs.declared.Context.{Context}
-use Rattle.context.specs.States.{same, flagOf}
+use Rattle.context.specs.States.{same}
 use Rattle.call.specs.declared.Due.{Due}
 use Rattle.call.specs.declared.Due.the-variants.{Steps, Ignored, Reported}
 use Rattle.call.specs.declared.Reason.{Reason}
 use Rattle.call.specs.declared.Event.the-variants.{Received}
-use Rattle.received.specs.Received.{transactionIs, typeCause, askedOf, sameOctets, isOther, Within}
+use Rattle.received.specs.Received.{transactionFits, typeCause, askedOf, mustNameUs, sameOctets, isOther, Within}
 use Rattle.received.specs.Due.{understoodDue, readingDue, dueOf}
 
 -- An identity that is named.
@@ -38,51 +42,63 @@ unfolding isOther
 is-named ours s named run r e p = rw (e, p)
 
 -- What rule 1 lets through.
-pub record Ours (x : Context) (s : List ℕ) : Type 0 where
+pub record Ours (protocol : Protocol) (x : Context) (s : List ℕ) : Type 0 where
   pub calling : same (x .state) U0 ≡ false
   pub two : ltb (length s) 2 ≡ false
-  pub broadcast : eqb (getD s 0 0 % 16) discriminator ≡ true
-  pub transacted : transactionIs (flagOf x) (x .value) (getD s 0 0) ≡ true
+  pub discriminated : eqb (getD s 0 0 % 16) (discriminator protocol) ≡ true
+  pub transacted : transactionFits x (getD s 0 0) ≡ true
 
 -- What is left after rule 1 goes by the type, and after rule 2 by what reading gives.
-module _ (table : Table) (identity : List ℕ) (x : Context) (mode : ℕ) (s : List ℕ) (ours : Ours x s) where
+module _ (table : Table) (identity : List ℕ) (x : Context) (mode : ℕ) (s : List ℕ) (ours : Ours (protocolOf table) x s) where
   pub due-typed : (cause : ℕ) → cause ≡ typeCause table x (getD s 1 0) → (cause ≡ 0 → ⊥) → Reported cause ≡ dueOf table identity x mode s
   unfolding dueOf
-  due-typed cause e n = rw (ours .calling, ours .two, ours .broadcast, ours .transacted, ← e, ne-eqb cause 0 n)
+  due-typed cause e n = rw (ours .calling, ours .two, ours .discriminated, ours .transacted, ← e, ne-eqb cause 0 n)
 
   module _ (none : typeCause table x (getD s 1 0) ≡ 0) (r : Due) where
-    pub due-read : (flag : Bool) (value : ℕ) (m : Message) → readMessage s ≡ Is flag value m → r ≡ understoodDue identity mode s m → r ≡ dueOf table identity x mode s
+    pub due-read : (flag : Bool) (value : ℕ) (m : Message) → readMessage (protocolOf table) s ≡ Is flag value m → r ≡ understoodDue (protocolOf table) identity mode s value m → r ≡ dueOf table identity x mode s
     unfolding dueOf readingDue
-    due-read flag value m e p = rw (ours .calling, ours .two, ours .broadcast, ours .transacted, none, e) p
+    due-read flag value m e p = rw (ours .calling, ours .two, ours .discriminated, ours .transacted, none, e) p
 
-    pub due-wrong : (fault : Fault) → readMessage s ≡ Unreadable fault → r ≡ Reported 96 → r ≡ dueOf table identity x mode s
+    pub due-wrong : (fault : Fault) → readMessage (protocolOf table) s ≡ Unreadable fault → r ≡ Reported 96 → r ≡ dueOf table identity x mode s
     unfolding dueOf readingDue
-    due-wrong fault e p = rw (ours .calling, ours .two, ours .broadcast, ours .transacted, none, e) p
+    due-wrong fault e p = rw (ours .calling, ours .two, ours .discriminated, ours .transacted, none, e) p
 
-    pub due-long : readMessage s ≡ TooLong → r ≡ Reported 96 → r ≡ dueOf table identity x mode s
+    pub due-long : readMessage (protocolOf table) s ≡ TooLong → r ≡ Reported 96 → r ≡ dueOf table identity x mode s
     unfolding dueOf readingDue
-    due-long e p = rw (ours .calling, ours .two, ours .broadcast, ours .transacted, none, e) p
+    due-long e p = rw (ours .calling, ours .two, ours .discriminated, ours .transacted, none, e) p
 
--- What holds of "ignored", of each report and of the step of each message holds of what is due to any octets.
-module _ (P : Due → Type 0) (ignored : (reason : Reason) → P (Ignored reason)) (reported : (cause : ℕ) → P (Reported cause)) (steps : (mode : ℕ) (m : Message) → P (Steps (Received mode m))) where
-  every-understood : (identity : List ℕ) (mode : ℕ) (s : List ℕ) (m : Message) → P (understoodDue identity mode s m)
-  unfolding understoodDue
-  every-understood identity mode s m =
-      at-cond P (eqb mode 1 && isOther identity s (askedOf m .identity)) _ _ (λ e. ignored _)
-      (λ e. at-cond P (askedOf m .disowns) _ _ (λ e. reported 95) (λ e. steps mode m))
+-- What holds of "ignored", of each report and of the step of each message holds of what is due to any octets. The message that is stepped with is of the context's
+-- transaction, and its value is that of its first octet.
+module _ (P : Due → Type 0) (ignored : (reason : Reason) → P (Ignored reason)) (reported : (cause : ℕ) → P (Reported cause)) (x : Context) (s : List ℕ)
+    (steps : transactionFits x (getD s 0 0) ≡ true → (mode : ℕ) (m : Message) → P (Steps (Received mode (getD s 0 0 / 16 % 8) m))) where
+  module _ (ours : transactionFits x (getD s 0 0) ≡ true) where
+    every-understood : (protocol : Protocol) (identity : List ℕ) (mode : ℕ) (m : Message) → P (understoodDue protocol identity mode s (getD s 0 0 / 16 % 8) m)
+    unfolding understoodDue
+    every-understood protocol identity mode m =
+        at-cond P (eqb mode 1 && isOther identity s (askedOf m .identity)) _ _ (λ e. ignored _)
+        (λ e. at-cond P (mustNameUs protocol && askedOf m .disowns) _ _ (λ e. reported 95) (λ e. steps ours mode m))
 
-  every-read : (identity : List ℕ) (mode : ℕ) (s : List ℕ) (r : Reading) → P (readingDue (understoodDue identity mode s) r)
-  unfolding readingDue
-  every-read identity mode s (Is flag value m) = every-understood identity mode s m
-  every-read identity mode s (Unreadable fault) = reported 96
-  every-read identity mode s TooLong = reported 96
+    every-body : (protocol : Protocol) (identity : List ℕ) (mode : ℕ) (flag : Bool) (b : Body) → P (readingDue (understoodDue protocol identity mode s) (readAs flag (getD s 0 0 / 16 % 8) b))
+    unfolding readingDue
+    every-body protocol identity mode flag (Body.Is m) = every-understood protocol identity mode m
+    every-body protocol identity mode flag (Body.Wrong fault) = reported 96
 
-  pub every-due : (table : Table) (identity : List ℕ) (x : Context) (mode : ℕ) (s : List ℕ) → P (dueOf table identity x mode s)
+    every-read : (protocol : Protocol) (identity : List ℕ) (mode : ℕ) → P (readingDue (understoodDue protocol identity mode s) (readMessage protocol s))
+    unfolding readMessage readingDue
+    every-read protocol identity mode =
+        let go : Reading → Due = readingDue (understoodDue protocol identity mode s) in
+        at-cond (λ r. P (go r)) (ltb 251 (length s)) _ _ (λ e. reported 96)
+        (λ e. at-cond (λ r. P (go r)) (ltb (length s) 2) _ _ (λ e. reported 96)
+        (λ e. at-cond (λ r. P (go r)) (eqb (getD s 0 0 % 16) (discriminator protocol)) _ _
+        (λ e. at-cond (λ r. P (go r)) (leb 128 (getD s 1 0)) _ _ (λ e. reported 96) (λ e. every-body protocol identity mode _ (bodyOf protocol s (getD s 1 0 % 64))))
+        (λ e. reported 96)))
+
+  pub every-due : (table : Table) (identity : List ℕ) (mode : ℕ) → P (dueOf table identity x mode s)
   unfolding dueOf
-  every-due table identity x mode s =
+  every-due table identity mode =
       at-cond P (same (x .state) U0) _ _ (λ e. ignored _)
       (λ e. at-cond P (ltb (length s) 2) _ _ (λ e. ignored _)
-      (λ e. at-cond P (not (eqb (getD s 0 0 % 16) discriminator)) _ _ (λ e. ignored _)
-      (λ e. at-cond P (not (transactionIs (flagOf x) (x .value) (getD s 0 0))) _ _ (λ e. ignored _)
-      (λ e. at-cond P (not (eqb (typeCause table x (getD s 1 0)) 0)) _ _ (λ e. reported (typeCause table x (getD s 1 0)))
-      (λ e. every-read identity mode s (readMessage s))))))
+      (λ e. at-cond P (not (eqb (getD s 0 0 % 16) (discriminator (protocolOf table)))) _ _ (λ e. ignored _)
+      (λ e. at-cond P (not (transactionFits x (getD s 0 0))) _ _ (λ e. ignored _)
+      (λ fits. at-cond P (not (eqb (typeCause table x (getD s 1 0)) 0)) _ _ (λ e. reported (typeCause table x (getD s 1 0)))
+      (λ e. every-read (not-false _ fits) (protocolOf table) identity mode)))))

@@ -15,6 +15,7 @@ use Rattle.codes.specs.Attributes.{attributesOf, weighs}
 use Rattle.octets.specs.declared.Reference.{Reference}
 use Rattle.message.specs.Content.{Content, immediateSetup, setup, terminationRequest}
 use Rattle.message.specs.Tables.{fits, table, typeOf, written, rowsFit}
+use Rattle.codes.specs.declared.protocol.Protocol.{Protocol}
 use Rattle.context.specs.declared.Context.{Context}
 use Rattle.context.proofs.Whole.{and-right, and-both}
 use Rattle.transitions.specs.declared.Send.{Send}
@@ -41,79 +42,79 @@ attributes-small p =
     let d : weighs (p .orig) 1 ≤ 1 = weigh-most _ _ in
     lt-ltb (weighs (p .datt) 8 + weighs (p .uatt) 4 + weighs (p .comm) 2 + weighs (p .orig) 1) 16 (omega arith)
 
-module _ (x : Context) (value : x .value ≤ 6) where
-  status-fits : (cause : List ℕ) → 1 ≤ length cause → length cause ≤ 246 → fits (flagSent x) (x .value) (statusOf x cause) ≡ true
+module _ (protocol : Protocol) (x : Context) (value : x .value ≤ 6) where
+  status-fits : (cause : List ℕ) → 1 ≤ length cause → length cause ≤ 246 → fits protocol (flagSent x) (x .value) (statusOf x cause) ≡ true
   unfolding fits table statusOf sent
   status-fits cause low high =
-      let l : length (sent x (statusOf x cause)) ≡ 5 + length cause = status-length x cause in
+      let l : length (sent protocol x (statusOf x cause)) ≡ 5 + length cause = status-length protocol x cause in
       and-both _ _ (le-leb _ _ value)
       (and-both _ _ (and-both _ _ (and-both _ _ (le-leb 2 (1 + length cause) (omega arith)) (le-leb (1 + length cause) 248 (omega arith))) (and-both _ _ (code-small (x .state)) (and-both _ _ (attributes-small (x .parameters)) refl)))
-      (le-leb (length (written (flagSent x) (x .value) (statusOf x cause))) 251 (omega arith)))
+      (le-leb (length (written protocol (flagSent x) (x .value) (statusOf x cause))) 251 (omega arith)))
 
-  setup-fits : fits (flagSent x) (x .value) (setup (x .reference)) ≡ true
+  setup-fits : fits protocol (flagSent x) (x .value) (setup (x .reference)) ≡ true
   unfolding fits table written typeOf
   setup-fits = and-both _ _ (le-leb _ _ value) refl
 
-  request-fits : fits (flagSent x) (x .value) (terminationRequest (x .reference)) ≡ true
+  request-fits : fits protocol (flagSent x) (x .value) (terminationRequest (x .reference)) ≡ true
   unfolding fits table written typeOf
   request-fits = and-both _ _ (le-leb _ _ value) refl
 
-  immediate-length : (own : Own) (identity : List ℕ) → length (written (flagSent x) (x .value) (immediateSetup (own .key) (own .classmark) identity (x .reference))) ≡ 12 + length identity
+  immediate-length : (own : Own) (identity : List ℕ) → length (written protocol (flagSent x) (x .value) (immediateSetup (own .key) (own .classmark) identity (x .reference))) ≡ 12 + length identity
   unfolding written table
   immediate-length own identity = simp length-append (omega arith)
 
   immediate-fits : (own : Own) (identity : List ℕ) → own .key ≤ 7 → 1 ≤ length identity → length identity ≤ 8
-      → fits (flagSent x) (x .value) (immediateSetup (own .key) (own .classmark) identity (x .reference)) ≡ true
+      → fits protocol (flagSent x) (x .value) (immediateSetup (own .key) (own .classmark) identity (x .reference)) ≡ true
   unfolding fits table
   immediate-fits own identity key low high =
       and-both _ _ (le-leb _ _ value)
       (and-both _ _ (and-both _ _ (lt-ltb (own .key) 8 (omega arith)) (and-both _ _ (and-both _ _ (le-leb 2 (1 + length identity) (omega arith)) (le-leb (1 + length identity) 9 (omega arith))) refl))
-      (let l : length (written (flagSent x) (x .value) (immediateSetup (own .key) (own .classmark) identity (x .reference))) ≡ 12 + length identity = immediate-length own identity in
-      le-leb (length (written (flagSent x) (x .value) (immediateSetup (own .key) (own .classmark) identity (x .reference)))) 251 (omega arith)))
+      (let l : length (written protocol (flagSent x) (x .value) (immediateSetup (own .key) (own .classmark) identity (x .reference))) ≡ 12 + length identity = immediate-length own identity in
+      le-leb (length (written protocol (flagSent x) (x .value) (immediateSetup (own .key) (own .classmark) identity (x .reference)))) 251 (omega arith)))
 
-  copied-short : (cause : ℕ) (s : List ℕ) → length (copied x cause s) ≤ 245
-  copied-short cause s = rw (copied-is x cause s) (go (leb (length s) 245) refl)
+  copied-short : (cause : ℕ) (s : List ℕ) → length (copied protocol x cause s) ≤ 245
+  copied-short cause s = rw (copied-is protocol x cause s) (go (leb (length s) 245) refl)
     where
       go : (t : Bool) → leb (length s) 245 ≡ t → length (cond t s []) ≤ 245
       go true e = leb-true _ _ e
       go false e = omega arith
 
-  goes : (room : ℕ) → 255 ≤ room → (c : Content) → fits (flagSent x) (x .value) c ≡ true → putContent room x c ≡ sent x c
+  goes : (room : ℕ) → 255 ≤ room → (c : Content) → fits protocol (flagSent x) (x .value) c ≡ true → putContent protocol room x c ≡ sent protocol x c
   unfolding putContent
   goes room big c e = rw (le-ltb room 255 big, e)
 
   -- Where the buffer and each field are in range, what is put is what is sent.
   pub put-is-reply : (room : ℕ) (own : Own) (identity s : List ℕ) (sends : Send) → 255 ≤ room → own .key ≤ 7 → 1 ≤ length identity → length identity ≤ 8
-      → putOf room own identity s x sends ≡ replyOf own identity s x sends
+      → putOf protocol room own identity s x sends ≡ replyOf protocol own identity s x sends
   unfolding putOf replyOf
   put-is-reply room own identity s sends big key low high = go sends
     where
-      go : (m : Send) → putOf room own identity s x m ≡ replyOf own identity s x m
+      go : (m : Send) → putOf protocol room own identity s x m ≡ replyOf protocol own identity s x m
       go Nothing = refl
       go ImmediateSetup = goes room big _ (immediate-fits own identity key low high)
       go Setup = goes room big _ setup-fits
       go TerminationRequest = goes room big _ request-fits
       go (Status cause) = goes room big _ (status-fits (causeOctet cause ∷ []) (omega arith) (omega arith))
       go (ErrorStatus cause) =
-          let h : length (copied x cause s) ≤ 245 = copied-short cause s in
-          goes room big _ (status-fits (causeOctet cause ∷ copied x cause s) (omega arith) (omega arith))
+          let h : length (copied protocol x cause s) ≤ 245 = copied-short cause s in
+          goes room big _ (status-fits (causeOctet cause ∷ copied protocol x cause s) (omega arith) (omega arith))
 
   -- And what is sent has at most 251 octets.
-  short : (c : Content) → fits (flagSent x) (x .value) c ≡ true → length (sent x c) ≤ 251
+  short : (c : Content) → fits protocol (flagSent x) (x .value) c ≡ true → length (sent protocol x c) ≤ 251
   unfolding fits sent
-  short c e = leb-true _ _ (and-right (rowsFit (table c)) _ (and-right (leb (x .value) 6) _ e))
+  short c e = leb-true _ _ (and-right (rowsFit (table protocol c)) _ (and-right (leb (x .value) 6) _ e))
 
   pub reply-short : (own : Own) (identity s : List ℕ) (sends : Send) → own .key ≤ 7 → 1 ≤ length identity → length identity ≤ 8
-      → length (replyOf own identity s x sends) ≤ 251
+      → length (replyOf protocol own identity s x sends) ≤ 251
   unfolding replyOf
   reply-short own identity s sends key low high = go sends
     where
-      go : (m : Send) → length (replyOf own identity s x m) ≤ 251
+      go : (m : Send) → length (replyOf protocol own identity s x m) ≤ 251
       go Nothing = omega arith
       go ImmediateSetup = short _ (immediate-fits own identity key low high)
       go Setup = short _ setup-fits
       go TerminationRequest = short _ request-fits
       go (Status cause) = short _ (status-fits (causeOctet cause ∷ []) (omega arith) (omega arith))
       go (ErrorStatus cause) =
-          let h : length (copied x cause s) ≤ 245 = copied-short cause s in
-          short _ (status-fits (causeOctet cause ∷ copied x cause s) (omega arith) (omega arith))
+          let h : length (copied protocol x cause s) ≤ 245 = copied-short cause s in
+          short _ (status-fits (causeOctet cause ∷ copied protocol x cause s) (omega arith) (omega arith))

@@ -7,6 +7,7 @@ use Rattle.message.specs.declared.Message.{Message}
 use Rattle.writing.specs.declared.Wrote.{Wrote}
 use Rattle.writing.specs.declared.Wrote.the-variants.{Written, ShortBuffer, OutOfRange}
 use Rattle.writing.specs.Writing.{writable, octetsWritten}
+use Rattle.codes.specs.declared.protocol.Protocol.{Protocol}
 use Rattle.context.specs.declared.Context.{Context}
 use Rattle.reply.specs.Reply.{flagSent}
 
@@ -16,7 +17,7 @@ countOf (Written count) = count
 countOf ShortBuffer = 0
 countOf OutOfRange = 0
 
-unfoldable pub putFrom : ℕ → List ℕ → Context → Message → List ℕ
-putFrom room s x message =
+unfoldable pub putFrom : Protocol → ℕ → List ℕ → Context → Message → List ℕ
+putFrom protocol room s x message =
     cond (ltb room 255) []
-    (cond (writable s (flagSent x) (x .value) message) (octetsWritten s (flagSent x) (x .value) message) [])
+    (cond (writable protocol s (flagSent x) (x .value) message) (octetsWritten protocol s (flagSent x) (x .value) message) [])

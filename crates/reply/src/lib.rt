@@ -9,6 +9,7 @@ ghost use Rattle.message.specs.Content.{immediateSetup};
 ghost use Rattle.reply.specs.Reply.{copyCount, statusOf, putContent, putOf};
 ghost use Rattle.reply.specs.Put.{countOf, putFrom};
 use codes::attributes::attributes_of;
+use codes::protocol::Protocol;
 use codes::state::call_state_code;
 use context::Context;
 use message::Classmark;
@@ -37,20 +38,33 @@ fn written_count(wrote: Wrote) -> usize
 }
 
 // Writes a message of the context's transaction; its runs lie in `source`.
-fn put_message(reply: &mut [u8], source: &[u8], context: Context, message: Message) -> usize
-    ensures { λ r. ⌜ r ≡ length (putFrom (length (now (reply .entry))) (now (source .entry)) context message) ⌝ }
-    ensures { λ _. ⌜ now (reply .exit) ≡ sets (now (reply .entry)) 0 (putFrom (length (now (reply .entry))) (now (source .entry)) context message) ⌝ }
+fn put_message(
+    protocol: Protocol,
+    reply: &mut [u8],
+    source: &[u8],
+    context: Context,
+    message: Message,
+) -> usize
+    ensures { λ r. ⌜ r ≡ length (putFrom protocol (length (now (reply .entry))) (now (source .entry)) context message) ⌝ }
+    ensures { λ _. ⌜ now (reply .exit) ≡ sets (now (reply .entry)) 0 (putFrom protocol (length (now (reply .entry))) (now (source .entry)) context message) ⌝ }
 {
     let flag = context::expected_flag(context);
-    let wrote = writing::write(reply, source, !flag, context.value, message);
+    let wrote = writing::write(protocol, reply, source, !flag, context.value, message);
     written_count(wrote)
 }
 
 // Writes a STATUS: the cause, then the first `count` octets of the message received.
-fn put_status(reply: &mut [u8], context: Context, cause: u8, octets: &[u8], count: usize) -> usize
+fn put_status(
+    protocol: Protocol,
+    reply: &mut [u8],
+    context: Context,
+    cause: u8,
+    octets: &[u8],
+    count: usize,
+) -> usize
     requires { ⌜ (count ≤ 245) × (count ≤ length (now octets)) ⌝ }
-    ensures { λ r. ⌜ r ≡ length (putContent (length (now (reply .entry))) context (statusOf context ((128 + cause % 128) ∷ part (now (octets .entry)) 0 count))) ⌝ }
-    ensures { λ _. ⌜ now (reply .exit) ≡ sets (now (reply .entry)) 0 (putContent (length (now (reply .entry))) context (statusOf context ((128 + cause % 128) ∷ part (now (octets .entry)) 0 count))) ⌝ }
+    ensures { λ r. ⌜ r ≡ length (putContent protocol (length (now (reply .entry))) context (statusOf context ((128 + cause % 128) ∷ part (now (octets .entry)) 0 count))) ⌝ }
+    ensures { λ _. ⌜ now (reply .exit) ≡ sets (now (reply .entry)) 0 (putContent protocol (length (now (reply .entry))) context (statusOf context ((128 + cause % 128) ∷ part (now (octets .entry)) 0 count))) ⌝ }
 {
     let state = context.state;
     let parameters = context.parameters;
@@ -68,7 +82,7 @@ fn put_status(reply: &mut [u8], context: Context, cause: u8, octets: &[u8], coun
         state: Half::Present(code),
         attributes: Half::Present(attributes),
     };
-    put_message(reply, &source, context, message)
+    put_message(protocol, reply, &source, context, message)
 }
 
 // How many octets of a message received an error STATUS copies: all or none.
@@ -83,9 +97,15 @@ fn copy_count(count: usize) -> usize
 }
 
 // Writes an IMMEDIATE SETUP with our own identity.
-fn put_immediate(reply: &mut [u8], own: Own, identity: &[u8], context: Context) -> usize
-    ensures { λ r. ⌜ r ≡ length (putContent (length (now (reply .entry))) context (immediateSetup (own .key) (own .classmark) (now (identity .entry)) (context .reference))) ⌝ }
-    ensures { λ _. ⌜ now (reply .exit) ≡ sets (now (reply .entry)) 0 (putContent (length (now (reply .entry))) context (immediateSetup (own .key) (own .classmark) (now (identity .entry)) (context .reference))) ⌝ }
+fn put_immediate(
+    protocol: Protocol,
+    reply: &mut [u8],
+    own: Own,
+    identity: &[u8],
+    context: Context,
+) -> usize
+    ensures { λ r. ⌜ r ≡ length (putContent protocol (length (now (reply .entry))) context (immediateSetup (own .key) (own .classmark) (now (identity .entry)) (context .reference))) ⌝ }
+    ensures { λ _. ⌜ now (reply .exit) ≡ sets (now (reply .entry)) 0 (putContent protocol (length (now (reply .entry))) context (immediateSetup (own .key) (own .classmark) (now (identity .entry)) (context .reference))) ⌝ }
 {
     let reference = context.reference;
     let classmark = own.classmark;
@@ -99,11 +119,12 @@ fn put_immediate(reply: &mut [u8], own: Own, identity: &[u8], context: Context) 
         identity: run,
         reference,
     };
-    put_message(reply, identity, context, message)
+    put_message(protocol, reply, identity, context, message)
 }
 
 // Writes what the step sends over the start of `reply`, and says how many octets that are. `octets` is the message received.
 pub fn put(
+    protocol: Protocol,
     reply: &mut [u8],
     own: Own,
     identity: &[u8],
@@ -111,24 +132,31 @@ pub fn put(
     context: Context,
     sends: Send,
 ) -> usize
-    ensures { λ r. ⌜ r ≡ length (putOf (length (now (reply .entry))) own (now (identity .entry)) (now (octets .entry)) context sends) ⌝ }
-    ensures { λ _. ⌜ now (reply .exit) ≡ sets (now (reply .entry)) 0 (putOf (length (now (reply .entry))) own (now (identity .entry)) (now (octets .entry)) context sends) ⌝ }
+    ensures { λ r. ⌜ r ≡ length (putOf protocol (length (now (reply .entry))) own (now (identity .entry)) (now (octets .entry)) context sends) ⌝ }
+    ensures { λ _. ⌜ now (reply .exit) ≡ sets (now (reply .entry)) 0 (putOf protocol (length (now (reply .entry))) own (now (identity .entry)) (now (octets .entry)) context sends) ⌝ }
 {
     let reference = context.reference;
     match sends {
         Send::Nothing => 0,
-        Send::ImmediateSetup => put_immediate(reply, own, identity, context),
-        Send::Setup => put_message(reply, identity, context, Message::Setup { reference }),
+        Send::ImmediateSetup => put_immediate(protocol, reply, own, identity, context),
+        Send::Setup => put_message(
+            protocol,
+            reply,
+            identity,
+            context,
+            Message::Setup { reference },
+        ),
         Send::TerminationRequest => put_message(
+            protocol,
             reply,
             identity,
             context,
             Message::TerminationRequest { reference },
         ),
-        Send::Status(cause) => put_status(reply, context, cause, octets, 0),
+        Send::Status(cause) => put_status(protocol, reply, context, cause, octets, 0),
         Send::ErrorStatus(cause) => {
             let count = copy_count(octets.len());
-            put_status(reply, context, cause, octets, count)
+            put_status(protocol, reply, context, cause, octets, count)
         }
     }
 }

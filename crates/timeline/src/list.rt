@@ -5,6 +5,7 @@ use crate::place::View;
 use crate::place::Watch;
 use crate::place::less;
 use crate::place::sum;
+use codes::protocol::Protocol;
 use drawing::begin_text;
 use drawing::end_text;
 use drawing::write_form;
@@ -194,7 +195,7 @@ fn write_message(descriptor: i32, log: &[u8], run: Run) {
     let start = run.start;
     let count = run.count;
     let octets = part(log, start, count);
-    match message::read(octets) {
+    match message::read(Protocol::Broadcast, octets) {
         Reading::TooLong => write_text(descriptor, b"too long"),
         Reading::Unreadable(fault) => write_faulty(descriptor, octets, fault),
         Reading::Is {

@@ -5,10 +5,13 @@ use mathlib.Core.Path.{_≡_, refl}
 use mathlib.Core.List.{List, [], _∷_}
 use mathlib.Core.Bool.{Bool, true, false, cond, not, _&&_, _||_}
 use lib.Dec.{eqb, leb}
-use Rattle.codes.specs.declared.state.State.the-variants.{U0}
+use Rattle.codes.specs.declared.state.State.the-variants.{U0, U2ws}
 use Rattle.timer.specs.Timers.{isOn, timerNumber, runningAmong, withTimer}
-use Rattle.context.specs.States.{same}
-use Rattle.fitness.specs.Fitness.{Fitness, timersFitBy, rememberedFitBy}
+use Rattle.context.specs.declared.Chooser.{Chooser}
+use Rattle.context.specs.declared.Chooser.the-variants.{Us, Cell}
+use Rattle.context.specs.States.{same, among}
+use Rattle.context.proofs.Whole.{ofChoosers}
+use Rattle.fitness.specs.Fitness.{Fitness, timersFitBy, rememberedFitBy, chooserFitBy}
 use Rattle.version.specs.declared.Table.{Table}
 use Rattle.version.specs.declared.Table.the-variants.{First, Second, Third}
 use Rattle.context.specs.Remembered.{remembering, returning}
@@ -17,6 +20,10 @@ use Rattle.fitness.proofs.Sound.{Sound as SoundFitness}
 use Rattle.fitness.proofs.Tables.{fitness-sound as of-fitness}
 use Rattle.transitions.specs.declared.Send.{Send}
 use Rattle.transitions.specs.declared.Send.the-variants.{Nothing, ImmediateSetup, Setup, TerminationRequest, Status, ErrorStatus}
+use Rattle.transitions.specs.declared.Note.{Note}
+use Rattle.transitions.specs.declared.Note.the-variants as Note
+use Rattle.transitions.specs.declared.Stores.{Stores}
+use Rattle.transitions.specs.declared.Stores.the-variants as Stores
 use Rattle.transitions.specs.Table.{
   Effect,
   send,
@@ -69,6 +76,55 @@ keepsFit fitness n s t r d =
     || (not (timersFitBy fitness s t && rememberedFitBy fitness s r)
     || (timersFitBy fitness (d .next) (timersAfter d t) && rememberedFitBy fitness (d .next) (rememberedAfter (d .memory) s r)))
 
+-- What a row notes: a pending request, a pending STATUS, who chose the value.
+abbrev pub pendsTermination : Note → Bool
+pendsTermination Note.Nothing = false
+pendsTermination Note.WeChose = false
+pendsTermination Note.CellChose = false
+pendsTermination Note.TerminationPends = true
+pendsTermination Note.StatusPends = false
+pendsTermination Note.TerminationDropped = false
+
+abbrev pub pendsStatus : Note → Bool
+pendsStatus Note.Nothing = false
+pendsStatus Note.WeChose = false
+pendsStatus Note.CellChose = false
+pendsStatus Note.TerminationPends = false
+pendsStatus Note.StatusPends = true
+pendsStatus Note.TerminationDropped = false
+
+abbrev pub chooserAfter : Note → Chooser → Chooser
+chooserAfter Note.Nothing c = c
+chooserAfter Note.WeChose c = Us
+chooserAfter Note.CellChose c = Cell
+chooserAfter Note.TerminationPends c = c
+chooserAfter Note.StatusPends c = c
+chooserAfter Note.TerminationDropped c = c
+
+-- Its ORIG is the message's.
+abbrev pub namesOriginator : Stores → Bool
+namesOriginator Stores.Nothing = false
+namesOriginator Stores.ValueAndReference = false
+namesOriginator Stores.ItsReference = false
+namesOriginator Stores.ItsReferenceAndOriginator = true
+
+-- What a group call keeps stays where it may be: the next state is one of the table's; where something is pending or becomes so it may be there, and a value may be
+-- awaited where one was, or where U2ws is entered; ORIG is the message's only where a state is entered in which none was awaited; and whoever chose the value may have.
+abbrev pub keepsTalk : Fitness → Test
+keepsTalk fitness n s t r d =
+    same (d .next) U0
+    || (not (rememberedFitBy fitness s r)
+    || (among (d .next) (fitness .states)
+    && ((not (pendsTermination (d .note)) || among s (fitness .requesting))
+    && ((not (among s (fitness .requesting)) || among (d .next) (fitness .requesting))
+    && ((not (among s (fitness .asked) || pendsStatus (d .note)) || among (d .next) (fitness .asked))
+    && ((not (among s (fitness .awaiting)) || (among (d .next) (fitness .awaiting) && not (namesOriginator (d .stores))))
+    && ((not (same (d .next) U2ws) || among (d .next) (fitness .awaiting))
+    && ((not (namesOriginator (d .stores)) || not (same s (d .next)))
+    && ofChoosers (λ c.
+    not (chooserFitBy fitness s r c)
+    || chooserFitBy fitness (d .next) (rememberedAfter (d .memory) s r) (chooserAfter (d .note) c))))))))))
+
 -- No timer is set that runs.
 abbrev pub setsFresh : Fitness → Test
 setsFresh fitness n s t r d = not (timersFitBy fitness s t) || not (isOn (d .sets) t)
@@ -103,6 +159,7 @@ pub record Sound (fitness : Fitness) (most : ℕ) (table : List Row) : Type 0 wh
   pub effects-single : singles table ≡ true
   pub types-known : ofTypes table ≡ true
   pub fit-kept : passes (keepsFit fitness) table ≡ true
+  pub talk-kept : passes (keepsTalk fitness) table ≡ true
   pub set-fresh : passes (setsFresh fitness) table ≡ true
   pub set-rightly : passes (setsRightly fitness) table ≡ true
   pub actions-few : passes (atMost most) table ≡ true
@@ -110,12 +167,13 @@ pub record Sound (fitness : Fitness) (most : ℕ) (table : List Row) : Type 0 wh
 
 -- The rows of each table are sound, and their actions are at most 63: that is all six of them, and the most that a log takes.
 pub rows-sound : (table : Table) → Sound (fitnessOf table) 63 (stepTable table)
-unfolding stepTable fitnessOf timersFitBy rememberedFitBy runningAmong withTimer remembering returning
+unfolding stepTable fitnessOf timersFitBy rememberedFitBy chooserFitBy runningAmong withTimer remembering returning
 rows-sound First = record {
   fitness-sound = of-fitness First;
   effects-single = refl;
   types-known = refl;
   fit-kept = refl;
+  talk-kept = refl;
   set-fresh = refl;
   set-rightly = refl;
   actions-few = refl;
@@ -126,6 +184,7 @@ rows-sound Second = record {
   effects-single = refl;
   types-known = refl;
   fit-kept = refl;
+  talk-kept = refl;
   set-fresh = refl;
   set-rightly = refl;
   actions-few = refl;
@@ -136,6 +195,7 @@ rows-sound Third = record {
   effects-single = refl;
   types-known = refl;
   fit-kept = refl;
+  talk-kept = refl;
   set-fresh = refl;
   set-rightly = refl;
   actions-few = refl;

@@ -20,7 +20,7 @@ use Rattle.step_arguments.specs.Arguments.{settingsOut, outOfRange, argumentRef
 use Rattle.radio.specs.Step.{eventOf, toldDue, dueTo, reactedTo, fitnessRefusal, refusalOf, stepOf}
 use Rattle.log_number.specs.Number.{joined, groupsAt, numberAt, upTo}
 use Rattle.log_data.specs.Reading.{carriesCall, callAt, receivedAt, dataAt}
-use Rattle.version.specs.Version.{tableOf, greatestEvent, greatestState, greatestActions}
+use Rattle.version.specs.Version.{tableOf, hasEvent, greatestState, greatestActions}
 use Rattle.log_field.specs.Reading.{smallAt, runAt}
 use Rattle.log_claim.specs.Reading.{claimAt}
 use Rattle.log.specs.Reading.{restAt, entryAt}
@@ -114,5 +114,5 @@ Answered (c ∷ cs) =
     ((answerNumber (judgeOf own identity (c .0)) ≡ c .1) × (answerValues (judgeOf own identity (c .0)) ≡ c .2)) × Answered cs
 
 pub all-cases : Answered cases
-unfolding judgeOf versionJudged invitationTold tellsInvitation tableOf settingsOut judgeTwo judge judgeFrom turn narrow entries entriesIn numberAt groupsAt joined upTo smallAt runAt callAt receivedAt dataAt claimAt restAt entryAt greatestEvent greatestState greatestActions carriesCall agree parametersNumber weighs stepOf refusalOf fitnessRefusal argumentRefusal outOfRange reactedTo dueTo eventOf toldDue settledBy stepBy seenOf carriedOut decidedBy decidedIn stepTable heardIn happenedIn noStep ignored afterwards withTimer parametersAfter entering startRow valueAfter referenceAfter cleared fitBy consistentBy timersFitBy rememberedFitBy isCleared runningAmong remembering returning expiryOf lengthOf replyOf dueOf sameOctets fitnessOf
+unfolding judgeOf versionJudged invitationTold tellsInvitation tableOf settingsOut judgeTwo judge judgeFrom turn narrow entries entriesIn numberAt groupsAt joined upTo smallAt runAt callAt receivedAt dataAt claimAt restAt entryAt hasEvent greatestState greatestActions carriesCall agree parametersNumber weighs stepOf refusalOf fitnessRefusal argumentRefusal outOfRange reactedTo dueTo eventOf toldDue settledBy stepBy seenOf carriedOut decidedBy decidedIn stepTable heardIn happenedIn noStep ignored afterwards withTimer parametersAfter entering startRow valueAfter referenceAfter cleared fitBy consistentBy timersFitBy rememberedFitBy isCleared runningAmong remembering returning expiryOf lengthOf replyOf dueOf sameOctets fitnessOf
 all-cases = ((refl, refl), ((refl, refl), ((refl, refl), ((refl, refl), ((refl, refl), ((refl, refl), ((refl, refl), ((refl, refl), ((refl, refl), ((refl, refl), ((refl, refl), ((refl, refl), ((refl, refl), ((refl, refl), ((refl, refl), ((refl, refl), ((refl, refl), ((refl, refl), ((refl, refl), ((refl, refl), ((refl, refl), ((refl, refl), tt))))))))))))))))))))))

@@ -1,7 +1,7 @@
 -- The recorder refuses no true step: what a step answered 0 to 3 gives is in range. So the recorder never answers 4 to it, where the delta is in range
 -- and no more bytes are used than the buffer has: those two are the host's.
 use Prim.Native.Nat.{ℕ, _+_, _≤_, _<_}
-use mathlib.Core.Path.{_≡_, refl, ap, subst}
+use mathlib.Core.Path.{_≡_, refl, ap}
 use mathlib.Core.Bool.{Bool, true, false, _&&_}
 use mathlib.Core.List.{List, [], _∷_, _++_}
 use native.Mathlib.Omega.{arith}
@@ -17,15 +17,15 @@ use Rattle.context.specs.declared.Context.{Context}
 use Rattle.context.specs.States.{numberOf}
 use Rattle.reply.specs.declared.Own.{Own}
 use Rattle.radio.specs.Step.{refusalOf}
-use Rattle.radio.proofs.Range.{InRange, in-range, refused-over, number-least, number-most, mode-most, value-most}
+use Rattle.radio.proofs.Range.{InRange, in-range, refused-over, number-known, mode-most, value-most}
 use Rattle.radio.proofs.Reacting.{step-by}
 use Rattle.radio.proofs.Answers.{Honest, step-honest, step-short}
 use Rattle.version.specs.declared.Table.{Table}
-use Rattle.version.specs.Version.{greatestEvent, greatestState, greatestActions, longest}
-use Rattle.version.proofs.Tables.{state-so, actions-so}
+use Rattle.version.specs.Version.{hasEvent, greatestState, greatestActions, longest}
+use Rattle.version.proofs.Tables.{state-wide, actions-wide}
 use Rattle.octets.specs.declared.Reference.{Reference}
 use Rattle.log_data.specs.Reading.{carriesCall}
-use Rattle.log.specs.Layout.{Field, number, octets, allInRange, dataFields, claimFields, fields, ranged}
+use Rattle.log.specs.Layout.{Field, number, eventNumber, octets, allInRange, dataFields, claimFields, fields, ranged}
 use Rattle.recorder.specs.Recording.{added, recordAnswer, answerNumber}
 use Rattle.recorder.specs.declared.Recorded.{Recorded}
 use Rattle.recorder.specs.declared.Recorded.the-variants.{Used, OutOfRange, TooLong, NoRoom}
@@ -36,10 +36,14 @@ use Rattle.verdict.specs.Entries.{meantBy}
 
 -- ---- fields in range
 
--- A field more: a number within its range, or octets.
+-- A field more: a number within its range, an event of the table, or octets.
 number-first : (least most n : ℕ) (more : List Field) → least ≤ n → n ≤ most → allInRange more ≡ true → allInRange (number least most n ∷ more) ≡ true
 unfolding allInRange
 number-first least most n more l m r = rw (le-leb least n l, le-leb n most m) r
+
+event-first : (table : Table) (n : ℕ) (more : List Field) → hasEvent table n ≡ true → allInRange more ≡ true → allInRange (eventNumber table n ∷ more) ≡ true
+unfolding allInRange
+event-first table n more h r = rw h r
 
 octets-first : (xs : List ℕ) (more : List Field) → allInRange more ≡ true → allInRange (octets xs ∷ more) ≡ true
 unfolding allInRange
@@ -68,9 +72,9 @@ claim-ranged : (table : Table) (answer state parameters actions : ℕ) (reply : 
 unfolding claimFields
 claim-ranged table answer state parameters actions reply a s p c l =
     number-first 0 3 answer _ (omega arith) a
-    (number-first 0 (greatestState table) state _ (omega arith) (subst (λ m. state ≤ m) (state-so table) s)
+    (number-first 0 (greatestState table) state _ (omega arith) (omega (arith, s, state-wide table))
     (number-first 0 15 parameters _ (omega arith) p
-    (number-first 0 (greatestActions table) actions _ (omega arith) (subst (λ m. actions ≤ m) (actions-so table) c)
+    (number-first 0 (greatestActions table) actions _ (omega arith) (omega (arith, c, actions-wide table))
     (number-first 0 255 (length reply) _ (omega arith) l (octets-first reply [] none-left)))))
 
 -- ---- what a context comes to in numbers
@@ -135,7 +139,7 @@ module _ (table : Table) (own : Own) (identity : List ℕ) (x : Context) (e : Gi
 
   call-most : carriesCall (e .happened .number) ≡ true → e .happened .value ≤ 6
   unfolding carriesCall
-  call-most c = leb-true _ 6 (value-most (greatestEvent table) (own .key) (length identity) (e .happened) (passes .range) c)
+  call-most c = leb-true _ 6 (value-most (hasEvent table (e .happened .number)) (own .key) (length identity) (e .happened) (passes .range) c)
 
   module _ (delta : ℕ) (day : delta ≤ 86400000) where
     -- Each number of the entry is in range. The context may be any: one that is not fit is answered 7.
@@ -145,10 +149,9 @@ module _ (table : Table) (own : Own) (identity : List ℕ) (x : Context) (e : Gi
         let h : Honest x (stepped table own identity x e) = step-honest table own identity 255 x (e .happened) (e .octets) in
         let l : length (stepped table own identity x e .reply) ≤ 251 = step-short table own identity 255 x (e .happened) (e .octets) in
         number-first 0 86400000 delta _ (omega arith) day
-        (number-first 1 (greatestEvent table) (e .happened .number) _ (number-least (greatestEvent table) (own .key) (length identity) (e .happened) (passes .range))
-        (number-most (greatestEvent table) (own .key) (length identity) (e .happened) (passes .range))
+        (event-first table (e .happened .number) _ (number-known (hasEvent table (e .happened .number)) (own .key) (length identity) (e .happened) (passes .range))
         (data-first (e .happened .number) (e .happened .value) _ (e .happened .mode) (e .octets) _ call-most
-        (mode-most (greatestEvent table) (own .key) (length identity) (e .happened) (passes .range)) message-most
+        (mode-most (hasEvent table (e .happened .number)) (own .key) (length identity) (e .happened) (passes .range)) message-most
         (claim-ranged table _ _ _ _ _ answer-most (state-most (stepped table own identity x e .context .state)) (parameters-most (stepped table own identity x e .context .parameters))
         (h .few) (omega (arith, l)))))
 

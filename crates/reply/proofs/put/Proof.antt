@@ -25,22 +25,22 @@ put-spec =
     (λ c κs. search needs)
     (λ c κs. search needs)
     (λ c. let a = c .before .before .before .before .before .before .args in
-    put-case (a .reply .now) (a .identity .now) (a .octets .now) (a .own) (a .context) (a .sends) _ _ _ _ (c .enum-told .given .1) refl (refl, refl))
+    put-case (a .protocol) (a .reply .now) (a .identity .now) (a .octets .now) (a .own) (a .context) (a .sends) _ _ _ _ (c .enum-told .given .1) refl (refl, refl))
     (λ c. search needs)
     (λ c. let a = c .before .before .before .before .before .before .before .before .before .before .args in
-    put-case (a .reply .now) (a .identity .now) (a .octets .now) (a .own) (a .context) (a .sends) _ _ _ _ (c .before .before .before .before .enum-told2 .given .1) refl (c .before .before .put-immediate .ensures))
+    put-case (a .protocol) (a .reply .now) (a .identity .now) (a .octets .now) (a .own) (a .context) (a .sends) _ _ _ _ (c .before .before .before .before .enum-told2 .given .1) refl (c .before .before .put-immediate .ensures))
     (λ c. search needs)
     (λ c. let a = c .before .before .before .before .before .before .before .before .before .before .args in
-    put-case (a .reply .now) (a .identity .now) (a .octets .now) (a .own) (a .context) (a .sends) _ _ _ _ (c .before .before .before .before .enum-told3 .given .1)
-    (setup-from _ (a .identity .now) (a .context) _) (c .before .before .put-message .ensures))
+    put-case (a .protocol) (a .reply .now) (a .identity .now) (a .octets .now) (a .own) (a .context) (a .sends) _ _ _ _ (c .before .before .before .before .enum-told3 .given .1)
+    (setup-from (a .protocol) _ (a .identity .now) (a .context) _) (c .before .before .put-message .ensures))
     (λ c. search needs)
     (λ c. let a = c .before .before .before .before .before .before .before .before .before .before .args in
-    put-case (a .reply .now) (a .identity .now) (a .octets .now) (a .own) (a .context) (a .sends) _ _ _ _ (c .before .before .before .before .enum-told4 .given .1)
-    (request-from _ (a .identity .now) (a .context) _) (c .before .before .put-message2 .ensures))
+    put-case (a .protocol) (a .reply .now) (a .identity .now) (a .octets .now) (a .own) (a .context) (a .sends) _ _ _ _ (c .before .before .before .before .enum-told4 .given .1)
+    (request-from (a .protocol) _ (a .identity .now) (a .context) _) (c .before .before .put-message2 .ensures))
     (λ c. search needs)
     (λ c. let a = c .before .before .before .before .before .before .before .before .before .before .before .args in
-    put-case (a .reply .now) (a .identity .now) (a .octets .now) (a .own) (a .context) (a .sends) _ _ _ _ (c .before .before .before .before .before .sends .given .1) refl (c .before .before .put-status .ensures))
+    put-case (a .protocol) (a .reply .now) (a .identity .now) (a .octets .now) (a .own) (a .context) (a .sends) _ _ _ _ (c .before .before .before .before .before .sends .given .1) refl (c .before .before .put-status .ensures))
     (λ c. search needs)
     (λ c. let a = c .before .before .before .before .before .before .before .before .before .before .before .before .args in
-    put-case (a .reply .now) (a .identity .now) (a .octets .now) (a .own) (a .context) (a .sends) _ _ _ _ (c .before .before .before .before .before .before .sends2 .given .1)
-    (error-from _ (a .octets .now) (a .context) _ _ (c .before .before .before .before .copy-count .ensures .0)) (c .before .before .put-status2 .ensures)))
+    put-case (a .protocol) (a .reply .now) (a .identity .now) (a .octets .now) (a .own) (a .context) (a .sends) _ _ _ _ (c .before .before .before .before .before .before .sends2 .given .1)
+    (error-from (a .protocol) _ (a .octets .now) (a .context) _ _ (c .before .before .before .before .copy-count .ensures .0)) (c .before .before .put-status2 .ensures)))
