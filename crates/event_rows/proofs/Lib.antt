@@ -1,2 +1,1 @@
-pub mod SubStates
 pub mod Coincide

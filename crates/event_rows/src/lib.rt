@@ -1,7 +1,8 @@
 // The step table's rows of events, state by state: what it says of an event's number and, for a message, its type code.
 ghost use mathlib.Core.Path.{_≡_};
 ghost use Rattle.codes.specs.declared.state.State.the-variants.{U0, U0p, U1, U2, U3, U4, U5, U6};
-ghost use Rattle.transitions.specs.Table.{stepTable, happenedIn, decidedOf};
+ghost use Rattle.transitions.specs.Table.{rowsOf, stepTable, happenedIn, decidedOf};
+use codes::protocol::Protocol;
 use codes::state::State;
 use context::Context;
 use timer::Timer;
@@ -99,7 +100,7 @@ const CHANNEL_AVAILABLE: Decision = Decision::Take(Taken {
 
 // No channel in U6.
 fn no_channel_in_u6(table: Table, context: Context) -> Decision
-    ensures { λ r. ⌜ r ≡ happenedIn (stepTable table) U6 context 12 ⌝ }
+    ensures { λ r. ⌜ r ≡ happenedIn (rowsOf Broadcast table) U6 context 12 ⌝ }
 {
     let timers = context.timers;
     if timers.nochannel {
@@ -109,7 +110,7 @@ fn no_channel_in_u6(table: Table, context: Context) -> Decision
 }
 
 fn in_u0(table: Table, context: Context, number: u8) -> Decision
-    ensures { λ r. ⌜ r ≡ happenedIn (stepTable table) U0 context number ⌝ }
+    ensures { λ r. ⌜ r ≡ happenedIn (rowsOf Broadcast table) U0 context number ⌝ }
 {
     match number {
         1 => SET_UP,
@@ -120,7 +121,7 @@ fn in_u0(table: Table, context: Context, number: u8) -> Decision
 }
 
 fn in_u0p(table: Table, context: Context, number: u8) -> Decision
-    ensures { λ r. ⌜ r ≡ happenedIn (stepTable table) U0p context number ⌝ }
+    ensures { λ r. ⌜ r ≡ happenedIn (rowsOf Broadcast table) U0p context number ⌝ }
 {
     match number {
         6 => ESTABLISHED,
@@ -134,7 +135,7 @@ fn in_u0p(table: Table, context: Context, number: u8) -> Decision
 }
 
 fn in_u1(table: Table, context: Context, number: u8) -> Decision
-    ensures { λ r. ⌜ r ≡ happenedIn (stepTable table) U1 context number ⌝ }
+    ensures { λ r. ⌜ r ≡ happenedIn (rowsOf Broadcast table) U1 context number ⌝ }
 {
     let parameters = context.parameters;
     let timers = context.timers;
@@ -150,7 +151,7 @@ fn in_u1(table: Table, context: Context, number: u8) -> Decision
 }
 
 fn in_u2(table: Table, context: Context, number: u8) -> Decision
-    ensures { λ r. ⌜ r ≡ happenedIn (stepTable table) U2 context number ⌝ }
+    ensures { λ r. ⌜ r ≡ happenedIn (rowsOf Broadcast table) U2 context number ⌝ }
 {
     let parameters = context.parameters;
     match number {
@@ -163,7 +164,7 @@ fn in_u2(table: Table, context: Context, number: u8) -> Decision
 }
 
 fn in_u3(table: Table, context: Context, number: u8) -> Decision
-    ensures { λ r. ⌜ r ≡ happenedIn (stepTable table) U3 context number ⌝ }
+    ensures { λ r. ⌜ r ≡ happenedIn (rowsOf Broadcast table) U3 context number ⌝ }
 {
     match number {
         3 => row_parts::joined(table),
@@ -176,7 +177,7 @@ fn in_u3(table: Table, context: Context, number: u8) -> Decision
 }
 
 fn in_u4(table: Table, context: Context, number: u8) -> Decision
-    ensures { λ r. ⌜ r ≡ happenedIn (stepTable table) U4 context number ⌝ }
+    ensures { λ r. ⌜ r ≡ happenedIn (rowsOf Broadcast table) U4 context number ⌝ }
 {
     match number {
         11 => RECEIVE_MODE_ENTERED,
@@ -189,7 +190,7 @@ fn in_u4(table: Table, context: Context, number: u8) -> Decision
 }
 
 fn in_u5(table: Table, context: Context, number: u8) -> Decision
-    ensures { λ r. ⌜ r ≡ happenedIn (stepTable table) U5 context number ⌝ }
+    ensures { λ r. ⌜ r ≡ happenedIn (rowsOf Broadcast table) U5 context number ⌝ }
 {
     let timers = context.timers;
     match number {
@@ -202,7 +203,7 @@ fn in_u5(table: Table, context: Context, number: u8) -> Decision
 }
 
 fn in_u6(table: Table, context: Context, number: u8) -> Decision
-    ensures { λ r. ⌜ r ≡ happenedIn (stepTable table) U6 context number ⌝ }
+    ensures { λ r. ⌜ r ≡ happenedIn (rowsOf Broadcast table) U6 context number ⌝ }
 {
     let timers = context.timers;
     match number {
@@ -216,9 +217,9 @@ fn in_u6(table: Table, context: Context, number: u8) -> Decision
     }
 }
 
-// An event that is no message, in the context's state. The sub-states of U2 have no row: these tables are of broadcast calls.
+// An event that is no message, in the context's state, by the tables of broadcast calls. The sub-states of U2 have no row: these tables are of broadcast calls.
 fn happened(table: Table, context: Context, number: u8) -> Decision
-    ensures { λ r. ⌜ r ≡ happenedIn (stepTable table) (context .state) context number ⌝ }
+    ensures { λ r. ⌜ r ≡ happenedIn (rowsOf Broadcast table) (context .state) context number ⌝ }
 {
     let state = context.state;
     match state {
@@ -239,6 +240,16 @@ fn happened(table: Table, context: Context, number: u8) -> Decision
     }
 }
 
+// The same by the table's protocol.
+fn occurred(table: Table, context: Context, number: u8) -> Decision
+    ensures { λ r. ⌜ r ≡ happenedIn (stepTable table) (context .state) context number ⌝ }
+{
+    match version::protocol(table) {
+        Protocol::Broadcast => happened(table, context, number),
+        Protocol::Group => group_rows::happened(context, number),
+    }
+}
+
 // What the table says in the context's state.
 pub fn decide(table: Table, context: Context, number: u8, code: u8) -> Decision
     ensures { λ r. ⌜ r ≡ decidedOf table context number code ⌝ }
@@ -246,5 +257,5 @@ pub fn decide(table: Table, context: Context, number: u8, code: u8) -> Decision
     if number == 18 {
         return message_rows::decide(table, context, code);
     }
-    happened(table, context, number)
+    occurred(table, context, number)
 }

@@ -8,9 +8,11 @@ ghost use Rattle.transitions.specs.declared.Send.the-variants.{Nothing};
 ghost use Rattle.transitions.specs.declared.Stores.the-variants as Stores;
 ghost use Rattle.transitions.specs.declared.Memory.the-variants.{Forget};
 ghost use Rattle.transitions.specs.declared.Note.the-variants as Note;
+ghost use Rattle.codes.specs.declared.protocol.Protocol.the-variants.{Broadcast};
 ghost use Rattle.transitions.specs.declared.Decision.the-variants.{Take};
-ghost use Rattle.transitions.specs.Table.{stepTable, heardIn, decidedOf};
+ghost use Rattle.transitions.specs.Table.{rowsOf, heardIn, decidedBy, decidedOf};
 use codes::message_type;
+use codes::protocol::Protocol;
 use codes::state::State;
 use context::Context;
 use context::Remembered;
@@ -96,19 +98,20 @@ fn returned(remembered: Remembered) -> Decision
 
 // TERMINATION REJECT in U5.
 fn rejected(table: Table, context: Context) -> Decision
-    ensures { λ r. ⌜ r ≡ heardIn (stepTable table) U5 context TERMINATION-REJECT ⌝ }
+    ensures { λ r. ⌜ r ≡ heardIn (rowsOf Broadcast table) U5 context TERMINATION-REJECT ⌝ }
 {
     let remembered = context.remembered;
     match table {
         Table::First => REJECTED,
         Table::Second => returned(remembered),
         Table::Third => returned(remembered),
+        Table::Group => returned(remembered),
     }
 }
 
 // CONNECT in U1.
 fn connected_in_u1(table: Table, context: Context) -> Decision
-    ensures { λ r. ⌜ r ≡ heardIn (stepTable table) U1 context CONNECT ⌝ }
+    ensures { λ r. ⌜ r ≡ heardIn (rowsOf Broadcast table) U1 context CONNECT ⌝ }
 {
     let timers = context.timers;
     if timers.mmest {
@@ -119,7 +122,7 @@ fn connected_in_u1(table: Table, context: Context) -> Decision
 
 // A message in U0.p.
 fn heard_in_u0p(table: Table, context: Context, code: u8) -> Decision
-    ensures { λ r. ⌜ r ≡ heardIn (stepTable table) U0p context code ⌝ }
+    ensures { λ r. ⌜ r ≡ heardIn (rowsOf Broadcast table) U0p context code ⌝ }
 {
     match code {
         message_type::IMMEDIATE_SETUP => INCOMPATIBLE,
@@ -137,7 +140,7 @@ fn heard_in_u0p(table: Table, context: Context, code: u8) -> Decision
 
 // A message in U1.
 fn heard_in_u1(table: Table, context: Context, code: u8) -> Decision
-    ensures { λ r. ⌜ r ≡ heardIn (stepTable table) U1 context code ⌝ }
+    ensures { λ r. ⌜ r ≡ heardIn (rowsOf Broadcast table) U1 context code ⌝ }
 {
     match code {
         message_type::IMMEDIATE_SETUP => INCOMPATIBLE,
@@ -155,7 +158,7 @@ fn heard_in_u1(table: Table, context: Context, code: u8) -> Decision
 
 // A message in U5.
 fn heard_in_u5(table: Table, context: Context, code: u8) -> Decision
-    ensures { λ r. ⌜ r ≡ heardIn (stepTable table) U5 context code ⌝ }
+    ensures { λ r. ⌜ r ≡ heardIn (rowsOf Broadcast table) U5 context code ⌝ }
 {
     match code {
         message_type::IMMEDIATE_SETUP => INCOMPATIBLE,
@@ -173,7 +176,7 @@ fn heard_in_u5(table: Table, context: Context, code: u8) -> Decision
 
 // A message in U2, and so in U3, U4 and U6.
 fn heard_elsewhere(table: Table, context: Context, code: u8) -> Decision
-    ensures { λ r. ⌜ r ≡ heardIn (stepTable table) U2 context code ⌝ }
+    ensures { λ r. ⌜ r ≡ heardIn (rowsOf Broadcast table) U2 context code ⌝ }
 {
     match code {
         message_type::IMMEDIATE_SETUP => INCOMPATIBLE,
@@ -191,7 +194,7 @@ fn heard_elsewhere(table: Table, context: Context, code: u8) -> Decision
 
 // A message in U2sl, and so in every sub-state of U2: these tables have no row of a group call.
 fn heard_in_sub_state(table: Table, context: Context, code: u8) -> Decision
-    ensures { λ r. ⌜ r ≡ heardIn (stepTable table) U2sl context code ⌝ }
+    ensures { λ r. ⌜ r ≡ heardIn (rowsOf Broadcast table) U2sl context code ⌝ }
 {
     match code {
         message_type::IMMEDIATE_SETUP => INCOMPATIBLE,
@@ -207,9 +210,9 @@ fn heard_in_sub_state(table: Table, context: Context, code: u8) -> Decision
     }
 }
 
-// What the table says of a message of a type in the context's state. It is asked before a message is read, and by itself it is small.
-pub fn decide(table: Table, context: Context, code: u8) -> Decision
-    ensures { λ r. ⌜ r ≡ decidedOf table context 18 code ⌝ }
+// What the tables of broadcast calls say of a message of a type in the context's state.
+fn heard(table: Table, context: Context, code: u8) -> Decision
+    ensures { λ r. ⌜ r ≡ decidedBy (rowsOf Broadcast table) context 18 code ⌝ }
 {
     let state = context.state;
     match state {
@@ -227,5 +230,15 @@ pub fn decide(table: Table, context: Context, code: u8) -> Decision
         State::U2ws => heard_in_sub_state(table, context, code),
         State::U2sr => heard_in_sub_state(table, context, code),
         State::U2nc => heard_in_sub_state(table, context, code),
+    }
+}
+
+// What the table says of a message of a type in the context's state. It is asked before a message is read, and by itself it is small.
+pub fn decide(table: Table, context: Context, code: u8) -> Decision
+    ensures { λ r. ⌜ r ≡ decidedOf table context 18 code ⌝ }
+{
+    match version::protocol(table) {
+        Protocol::Broadcast => heard(table, context, code),
+        Protocol::Group => group_rows::heard(context, code),
     }
 }

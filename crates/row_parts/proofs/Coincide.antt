@@ -12,7 +12,8 @@ use Rattle.transitions.specs.declared.Memory.the-variants.{Keep}
 use Rattle.transitions.specs.declared.Note.the-variants as Note
 use Rattle.transitions.specs.declared.Decision.{Decision}
 use Rattle.transitions.specs.declared.Decision.the-variants.{Take, NoStep}
-use Rattle.transitions.specs.Table.{asking, inviting, stepTable, happenedIn}
+use Rattle.codes.specs.declared.protocol.Protocol.the-variants.{Broadcast}
+use Rattle.transitions.specs.Table.{asking, inviting, rowsOf, happenedIn}
 
 pub terminated-coincides : (table : Table) (orig : Bool) (a b : Decision)
     → a ≡ cond orig (Take (record { next = U5; actions = 0; sends = TerminationRequest; stops = MmEst; sets = Term; stores = Stores.Nothing; memory = asking table; note = Note.Nothing })) NoStep
@@ -35,5 +36,5 @@ pub joined-coincides : (table : Table) (a b : Decision)
     → a ≡ b
 joined-coincides table a b = coincide _ a b
 
-pub forgotten-coincides : (table : Table) (x : Context) (a b : Decision) → a ≡ happenedIn (stepTable table) U3 x 19 → b ≡ happenedIn (stepTable table) U3 x 19 → a ≡ b
-forgotten-coincides table x a b = coincide (happenedIn (stepTable table) U3 x 19) a b
+pub forgotten-coincides : (table : Table) (x : Context) (a b : Decision) → a ≡ happenedIn (rowsOf Broadcast table) U3 x 19 → b ≡ happenedIn (rowsOf Broadcast table) U3 x 19 → a ≡ b
+forgotten-coincides table x a b = coincide (happenedIn (rowsOf Broadcast table) U3 x 19) a b

@@ -2,13 +2,14 @@
 ghost use mathlib.Core.Path.{_≡_};
 ghost use mathlib.Core.Bool.{cond};
 ghost use Rattle.codes.specs.declared.state.State.the-variants.{U3, U4, U5};
+ghost use Rattle.codes.specs.declared.protocol.Protocol.the-variants.{Broadcast};
 ghost use Rattle.transitions.specs.declared.Decision.the-variants.{Take, NoStep};
 ghost use Rattle.transitions.specs.declared.Send.the-variants.{Nothing, TerminationRequest};
 ghost use Rattle.transitions.specs.declared.Memory.the-variants.{Keep};
 ghost use Rattle.transitions.specs.declared.Note.the-variants as Note;
 ghost use Rattle.transitions.specs.declared.Stores.the-variants as Stores;
 ghost use Rattle.timer.specs.declared.Timer.the-variants.{NoTimer, MmEst, Term, ConnReq};
-ghost use Rattle.transitions.specs.Table.{asking, inviting, stepTable, happenedIn};
+ghost use Rattle.transitions.specs.Table.{asking, inviting, rowsOf, happenedIn};
 use codes::state::State;
 use context::Context;
 use timer::Timer;
@@ -76,6 +77,7 @@ fn asking(table: Table) -> Memory
         Table::First => Memory::Keep,
         Table::Second => Memory::Remember,
         Table::Third => Memory::Remember,
+        Table::Group => Memory::Keep,
     }
 }
 
@@ -117,6 +119,7 @@ fn inviting(table: Table) -> Timer
         Table::First => Timer::NoTimer,
         Table::Second => Timer::NoTimer,
         Table::Third => Timer::Pres,
+        Table::Group => Timer::NoTimer,
     }
 }
 
@@ -156,12 +159,13 @@ pub fn joined(table: Table) -> Decision
 
 // 19, expiry of T_pres: the invitation is forgotten. The first two tables have no such row.
 pub fn forgotten(table: Table, context: Context) -> Decision
-    ensures { λ r. ⌜ r ≡ happenedIn (stepTable table) U3 context 19 ⌝ }
+    ensures { λ r. ⌜ r ≡ happenedIn (rowsOf Broadcast table) U3 context 19 ⌝ }
 {
     let timers = context.timers;
     match table {
         Table::First => Decision::NoStep,
         Table::Second => Decision::NoStep,
         Table::Third => where_true(timers.pres, ENDS),
+        Table::Group => Decision::NoStep,
     }
 }

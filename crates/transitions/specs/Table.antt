@@ -184,11 +184,11 @@ groupRows =
     row (each (U2sl ∷ U2sr ∷ [])) (event 32) (to U2wr) (act 4) [] ∷
     row (each (U2wr ∷ U2r ∷ [])) (event 33) (to U2ws) (act 64) [] ∷
     -- 6.3.1.1, table 6.2: the sub-state that belongs to the mode which RR enters: idle, group receive, group transmit, dedicated. T_no channel runs in U2nc.
+    row ((U2nc, running NoChannel) ∷ []) (event 17) (to U0) (act (1 + 8)) [] ∷
     row (each subStates) (event 12) (to U2nc) (act 0) (set-unless-running NoChannel ∷ []) ∷
     row (each subStates) (event 11) (to U2r) (act 0) (stop NoChannel ∷ []) ∷
     row (each subStates) (event 34) (to U2sr) (act 0) (stop NoChannel ∷ []) ∷
     row (each subStates) (event 35) (to U2sl) (act 0) (stop NoChannel ∷ []) ∷
-    row ((U2nc, running NoChannel) ∷ []) (event 17) (to U0) (act (1 + 8)) [] ∷
     -- 6.4.1: a termination is asked for where ORIG is true, and is pending; "If the MS is in sub-state U2r, it shall enter sub-state U2ws and ask RR to enter group transmit mode".
     row ((U2r, ORIG) ∷ []) (event 4) (to U2ws) (act 64) (note Note.TerminationPends ∷ []) ∷
     row (where-orig (U1 ∷ U2sl ∷ U2wr ∷ U2ws ∷ U2sr ∷ U2nc ∷ [])) (event 4) stay (act 0) (note Note.TerminationPends ∷ []) ∷
@@ -199,17 +199,14 @@ groupRows =
     row (each (U0p ∷ U1 ∷ U2sl ∷ U2wr ∷ U2ws ∷ U2sr ∷ U2nc ∷ U3 ∷ U4 ∷ U5 ∷ [])) (message GET-STATUS) stay (act 0) (note Note.StatusPends ∷ []) ∷
     []
 
-abbrev pub ownRows : Table → List Row
-ownRows First = broadcastRows First
-ownRows Second = broadcastRows Second
-ownRows Third = broadcastRows Third
-ownRows Group = groupRows
+abbrev pub ownRows : Protocol → Table → List Row
+ownRows Protocol.Broadcast table = broadcastRows table
+ownRows Protocol.Group table = groupRows
 
 -- Actions: 1 inform higher layers, 2 request an MM connection, 4 request group receive mode, 8 abort, 16 release,
 -- 32 tell lower layers that the MM connection exists implicitly. "Events 1, 2 and 10 carry a transaction value and a reference, stored when taken."
-abbrev pub sharedRows : Table → List Row
-sharedRows table =
-    let p : Protocol = protocolOf table in
+abbrev pub sharedRows : Protocol → Table → List Row
+sharedRows p table =
     row (each (U0 ∷ [])) (event 1) (to U0p) (act 2) (set MmEst ∷ store-value-and-reference ∷ note (choosing p Note.WeChose) ∷ []) ∷
     row (each (U0 ∷ [])) (event 2) (to U1) (act 0) (send ImmediateSetup ∷ set MmEst ∷ store-value-and-reference ∷ note (choosing p Note.WeChose) ∷ []) ∷
     row (each (U0p ∷ [])) (event 6) (to U1) (act 0) (send Setup ∷ stop MmEst ∷ []) ∷
@@ -230,8 +227,11 @@ sharedRows table =
     row (each (taken-part p)) (event 8) (to U0) (act (1 + 8)) [] ∷
     []
 
+abbrev pub rowsOf : Protocol → Table → List Row
+rowsOf p table = ownRows p table ++ sharedRows p table
+
 unfoldable pub stepTable : Table → List Row
-stepTable table = ownRows table ++ sharedRows table
+stepTable table = rowsOf (protocolOf table) table
 
 -- ---- what a row says in a context
 

@@ -1,14 +1,11 @@
 -- `happened` meets its contract, state by state.
 use borrow.Author.Needs.{needs}
 use mathlib.Core.Path.{refl}
-use Rattle.transitions.specs.Table.{stepTable}
-use Rattle.transitions.proofs.InState.{happened-in-state}
-use Rattle.event_rows.proofs.SubStates.{rowless}
+use Rattle.transitions.proofs.InState.{happened-in-state, rowless}
 use Rattle.event_rows.proofs.happened.Statement.{statement}
 use Rattle.event_rows.proofs.happened.Tie as tie
 
 pub happened-spec : {M : Type 1} → statement M
-unfolding stepTable
 happened-spec =
     tie.close
     (tie.spec

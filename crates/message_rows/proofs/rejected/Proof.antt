@@ -1,11 +1,11 @@
 -- `rejected` meets its contract, table by table.
 use borrow.Author.Needs.{needs}
-use Rattle.transitions.specs.Table.{stepTable, heardIn}
+use Rattle.transitions.specs.Table.{heardIn}
 use Rattle.message_rows.proofs.rejected.Statement.{statement}
 use Rattle.message_rows.proofs.rejected.Tie as tie
 
 pub rejected-spec : {M : Type 1} → statement M
-unfolding stepTable heardIn
+unfolding heardIn
 rejected-spec =
     tie.close
     (tie.spec
