@@ -106,7 +106,7 @@ module _ (room at : ℕ) (w : List ℕ) (due : Bool) where
   unfolding placed
   placed-whole e h = ap (λ (t : Bool). placed room at (cond t w [])) (not-false due e) ∙ rw (le-leb (at + length w) room h)
 
-pub placed-within : (room at : ℕ) (w : List ℕ) → at ≤ room → at + length (placed room at w) ≤ room
+placed-within : (room at : ℕ) (w : List ℕ) → at ≤ room → at + length (placed room at w) ≤ room
 unfolding placed
 placed-within room at w h = at-cond (λ (v : List ℕ). at + length v ≤ room) (leb (at + length w) room) w [] (λ e. leb-true _ _ e) (λ e. omega arith)
 
@@ -157,6 +157,14 @@ stand-both d at v w n m e f p q =
     let b : m ≡ n + length w = q .0 in
     (omega arith, q .1 ∙ ap (λ (x : List ℕ). sets x n w) (p .1) ∙ ap (λ (k : ℕ). sets (sets d at v) k w) a ∙ sym (sets-append d at v w))
 
+-- The count behind what was placed is within the buffer.
+pub stands-within : (d : List ℕ) (at : ℕ) (w : List ℕ) (n : ℕ) (e : List ℕ) → at ≤ length d → Stands d at (placed (length d) at w) n e → n ≤ length e
+stands-within d at w n e low p =
+    let l : length e ≡ length d = ap length (p .1) ∙ length-sets d at (placed (length d) at w) in
+    let h : at + length (placed (length d) at w) ≤ length d = placed-within (length d) at w low in
+    let a : n ≡ at + length (placed (length d) at w) = p .0 in
+    omega arith
+
 module _ (protocol : Protocol) (x : Context) (k : Sent) (d : List ℕ) (at : ℕ) where
   abbrev statusPut : Message → List ℕ
   statusPut m = placed (length d) at (cond (k .status) (putSix protocol (158 ∷ []) x m) [])
@@ -164,14 +172,7 @@ module _ (protocol : Protocol) (x : Context) (k : Sent) (d : List ℕ) (at : ℕ
   abbrev requestPut : ℕ → ℕ → List ℕ
   requestPut room n = placed room n (cond (k .request) (putSix protocol (158 ∷ []) x (TerminationRequest (x .reference))) [])
 
-  -- `put_pending`: there is room for the count behind the first.
-  pub status-within : at ≤ length d → (m : Message) (n : ℕ) (e : List ℕ) → Stands d at (statusPut m) n e → n ≤ length e
-  status-within low m n e p =
-      let l : length e ≡ length d = ap length (p .1) ∙ length-sets d at (statusPut m) in
-      let w : at + length (statusPut m) ≤ length d = placed-within (length d) at _ low in
-      let a : n ≡ at + length (statusPut m) = p .0 in
-      omega arith
-
+  -- `put_pending`.
   pub both-pending : (m : Message) → m ≡ statusTelling (record { start = 0; count = 1 }) (k .state) (k .parameters) → (n : ℕ) (e : List ℕ) → Stands d at (statusPut m) n e
       → (r : ℕ) (f : List ℕ) → Stands e n (requestPut (length e) n) r f → Stands d at (pendingOf protocol (length d) at x k) r f
   unfolding pendingOf
