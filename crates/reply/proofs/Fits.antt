@@ -1,8 +1,8 @@
 -- The writer never refuses what a step sends: then a reply is the table's octets.
-use Prim.Native.Nat.{ℕ, suc, _+_, _/_, _%_, _≤_, _<_}
-use mathlib.Core.Path.{_≡_, refl, sym, ap, _∙_}
+use Prim.Native.Nat.{ℕ, _+_, _/_, _%_, _≤_}
+use mathlib.Core.Path.{_≡_, refl, ap, _∙_}
 use mathlib.Core.List.{List, [], _∷_, _++_, append-nil, append-assoc}
-use mathlib.Core.Bool.{Bool, true, false, cond, _&&_, _||_}
+use mathlib.Core.Bool.{Bool, true, false, cond}
 use native.Mathlib.Omega.{arith}
 use lib.Dec.{leb, ltb}
 use lib.ListN.{length, getD, length-append}
@@ -12,7 +12,6 @@ use Rattle.codes.specs.declared.state.State.the-variants.{U0, U0p, U1, U2, U3, 
 use Rattle.codes.specs.declared.attributes.Parameters.{Parameters}
 use Rattle.codes.specs.CallStates.{callStateCode}
 use Rattle.codes.specs.Attributes.{attributesOf, weighs}
-use Rattle.octets.specs.declared.Reference.{Reference}
 use Rattle.octets.proofs.Choice.{at-cond, never}
 use Rattle.message.specs.declared.Half.the-variants.{Present}
 use Rattle.message.specs.Content.{Content, immediateSetup, setup, terminationRequest, status}

@@ -2,12 +2,12 @@
 use Prim.Native.Nat.{ℕ, _+_, _-_, _/_, _%_, _≤_, _<_}
 use mathlib.Core.Path.{_≡_, refl, sym, ap, _∙_}
 use mathlib.Core.List.{List, [], _∷_, _++_, append-nil, append-assoc}
-use mathlib.Core.Bool.{Bool, true, false, cond, not, _&&_, _||_}
+use mathlib.Core.Bool.{Bool, true, false, cond, not, _||_}
 use native.Mathlib.Omega.{arith}
 use lib.Dec.{leb, ltb}
 use lib.ListN.{length, take, getD, length-append}
 use lib.Seq.{sets, length-sets}
-use borrow.Author.Tests.{le-leb, lt-leb, leb-true, leb-false, ltb-false, not-true, not-false}
+use borrow.Author.Tests.{le-leb, lt-leb, leb-true, ltb-false, not-true, not-false}
 use Rattle.octets.specs.Run.{part}
 use Rattle.octets.proofs.Choice.{cond-same, at-cond, never}
 use Rattle.octets.proofs.Stores.{sets-append, over-start}
@@ -17,8 +17,8 @@ use Rattle.codes.specs.declared.protocol.Protocol.{Protocol}
 use Rattle.message.specs.declared.Half.the-variants.{Present}
 use Rattle.message.specs.declared.Message.{Message}
 use Rattle.message.specs.declared.Message.the-variants.{TerminationRequest}
-use Rattle.message.specs.Content.{Content, terminationRequest, status, lies}
-use Rattle.message.specs.Tables.{written, fits, table}
+use Rattle.message.specs.Content.{terminationRequest, status, lies}
+use Rattle.message.specs.Tables.{written, table}
 use Rattle.writing.specs.declared.Wrote.{Wrote}
 use Rattle.writing.specs.declared.Wrote.the-variants.{Written, ShortBuffer, OutOfRange}
 use Rattle.writing.specs.Writing.{writable, octetsWritten, putAnswer, putLeaves}
@@ -42,7 +42,7 @@ nothing-stands d at = (omega arith, refl)
 -- ---- what a report is sent in
 
 -- No octet is 0.
-pub no-first : (s : List ℕ) → length s ≤ 0 → 0 ≡ getD s 0 0
+pub no-first : (s : List ℕ) → length s ≡ 0 → 0 ≡ getD s 0 0
 no-first [] h = refl
 no-first (b ∷ s) h = let z : ⊥ = omega arith in elim z [ ]
 

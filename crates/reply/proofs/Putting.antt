@@ -1,5 +1,5 @@
 -- What the writer answers and leaves is what the contracts of this crate say; a run that is the whole source is the source.
-use Prim.Native.Nat.{ℕ, suc, _+_, _≤_}
+use Prim.Native.Nat.{ℕ, _+_, _≤_}
 use mathlib.Core.Path.{_≡_, refl, sym, ap, _∙_}
 use mathlib.Core.List.{List, [], _∷_}
 use mathlib.Core.Bool.{Bool, true, false, cond, not, _&&_}
@@ -10,12 +10,13 @@ use lib.Seq.{sets, length-sets, take-length}
 use borrow.Author.Tests.{le-leb}
 use Rattle.octets.specs.Run.{part}
 use Rattle.octets.proofs.Stores.{part-length, over-start}
+use Rattle.codes.specs.declared.state.State.{State}
+use Rattle.codes.specs.declared.attributes.Parameters.{Parameters}
 use Rattle.codes.specs.CallStates.{callStateCode}
 use Rattle.codes.specs.Attributes.{attributesOf}
 use Rattle.octets.specs.declared.Run.{Run}
 use Rattle.octets.specs.declared.Reference.{Reference}
 use Rattle.message.specs.declared.Classmark.{Classmark}
-use Rattle.message.specs.declared.Half.{Half}
 use Rattle.message.specs.declared.Half.the-variants.{Present}
 use Rattle.message.specs.declared.Message.{Message}
 use Rattle.message.specs.declared.Message.the-variants.{ImmediateSetup, Setup, TerminationRequest, Status}
@@ -55,6 +56,11 @@ module _ (protocol : Protocol) (d s : List ℕ) (x : Context) (m : Message) (f :
   unfolding writeLeaves putFrom
   put-leaves after p = p ∙ ap (λ (g : Bool). writeLeaves protocol d s (not g) (x .value) m) e
       ∙ left (ltb (length d) 255) (writable protocol s (flagSent x) (x .value) m) d (octetsWritten protocol s (flagSent x) (x .value) m)
+
+-- `status_telling`: the state as its code, the parameters as attributes.
+pub telling : (cause : Run) (state : State) (p : Parameters) (code attributes : ℕ) → code ≡ callStateCode state → attributes ≡ attributesOf p
+    → Status cause (Present code) (Present attributes) ≡ statusTelling cause state p
+telling cause state p code attributes e f = rw (e, f)
 
 -- A message whose runs lie within the source is written as its content.
 module _ (protocol : Protocol) (room : ℕ) (s : List ℕ) (x : Context) where

@@ -138,7 +138,7 @@ fn put_immediate(
 fn first_of(octets: &[u8]) -> u8
     ensures { λ r. ⌜ r ≡ getD (now (octets .entry)) 0 0 ⌝ }
 {
-    if octets.len() <= 0 {
+    if octets.len() == 0 {
         return 0;
     }
     octets[0]

@@ -1,6 +1,5 @@
 -- `hearing` meets its contract, either way of its test.
 use borrow.Author.Needs.{needs}
-use Rattle.reply.specs.Reply.{hearing}
 use Rattle.reply.proofs.Pending.{not-awaited, awaited}
 use Rattle.reply.proofs.hearing.Statement.{statement}
 use Rattle.reply.proofs.hearing.Tie as tie

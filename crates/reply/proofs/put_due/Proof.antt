@@ -2,7 +2,6 @@
 use borrow.Author.Needs.{needs}
 use Prim.Native.Nat.{ℕ}
 use mathlib.Core.List.{[], _∷_}
-use native.Mathlib.Omega.{arith}
 use lib.ListN.{replicate, length-replicate}
 use Rattle.reply.proofs.Pending.{not-due, no-room, copy-fits, due-put}
 use Rattle.reply.proofs.put_due.Statement.{statement}

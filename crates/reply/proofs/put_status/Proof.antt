@@ -1,7 +1,6 @@
 -- `put_status` meets its contract: the source holds the cause octets, so what is written is the STATUS with them.
 use borrow.Author.Needs.{needs}
 use Prim.Native.Nat.{ℕ, _+_, _%_}
-use native.Mathlib.Omega.{arith}
 use lib.ListN.{replicate, length-replicate}
 use Rattle.reply.proofs.Putting.{cause-length, status-from, put-as}
 use Rattle.reply.proofs.put_status.Statement.{statement}
