@@ -1,8 +1,5 @@
 -- `put_pending` meets its contract: one message behind the other.
 use borrow.Author.Needs.{needs}
-use mathlib.Core.List.{[], _∷_}
-use mathlib.Core.Bool.{cond}
-use Rattle.reply.specs.Put.{putSix}
 use Rattle.reply.proofs.Pending.{stands-within, both-pending}
 use Rattle.reply.proofs.put_pending.Statement.{statement}
 use Rattle.reply.proofs.put_pending.Tie as tie
@@ -14,7 +11,7 @@ put-pending-spec =
     (λ c κs. search needs)
     (λ c κs. search needs)
     (λ c κs. let a = c .before .before .before .before .before .before .before .before .before .args in
-    stands-within (a .reply .now) (a .at) (cond (a .sent .status) (putSix (a .protocol) (158 ∷ []) (a .context) (c .before .before .before .before .before .status-telling .result)) []) _ _ (c .before .before .before .before .before .before .before .before .before .pre) (c .before .before .before .put-due .ensures))
+    stands-within (a .reply .now) (a .at) _ _ _ (c .before .before .before .before .before .before .before .before .before .pre) (c .before .before .before .put-due .ensures))
     (λ c. search needs)
     (λ c. let a = c .before .before .before .before .before .before .before .before .before .before .before .before .args in
     both-pending (a .protocol) (a .context) (a .sent) (a .reply .now) (a .at) _ (c .before .before .before .before .before .before .before .before .status-telling .ensures) _ _ (c .before .before .before .before .before .before .put-due .ensures) _ _ (c .before .before .put-due2 .ensures)))
