@@ -1,9 +1,8 @@
 // What the commands of the probe and the words for people share: the typed words of a command line, the answer to a line that is no command, an octet by its
-// place, the number of a fault, and where the first message of a reply ends.
+// place, the number of a fault, and the messages of a reply.
+pub mod reply_messages;
 pub mod words;
 
-use codes::message_type;
-use codes::protocol::Protocol;
 use message::Fault;
 use saying::say;
 use text::output::Output;
@@ -31,28 +30,4 @@ pub fn octet_at(octets: &[u8], at: usize) -> u8 {
         return 0;
     }
     octets[at]
-}
-
-// How many octets the first message of a reply takes. A broadcast call's reply is one message; behind a group call's SETUP or STATUS there may be a second one, and
-// these two say by their type and their length octet where they end.
-pub fn first_message(protocol: Protocol, reply: &[u8]) -> usize {
-    match protocol {
-        Protocol::Broadcast => reply.len(),
-        Protocol::Group => shorter(length_by_type(reply), reply.len()),
-    }
-}
-
-fn length_by_type(reply: &[u8]) -> usize {
-    match octet_at(reply, 1) {
-        message_type::SETUP => 6,
-        message_type::STATUS => 5 + octet_at(reply, 2) as usize,
-        _ => reply.len(),
-    }
-}
-
-fn shorter(count: usize, most: usize) -> usize {
-    if most < count {
-        return most;
-    }
-    count
 }
