@@ -1,8 +1,10 @@
 //! The second program: document 01, what document 02 changes in it and the
-//! standard (GSM 04.69, 7.2.0) written down once more, so that another program can be compared with it command by
+//! standards (GSM 04.69, 7.2.0, and for group calls 24.068, 3.1.0) written down
+//! once more, so that another program can be compared with it command by
 //! command. This file has the subcommands alone.
 
 mod answer;
+mod call;
 mod commands;
 mod context;
 mod event;
@@ -11,6 +13,7 @@ mod log;
 mod message;
 mod own;
 mod probe;
+mod protocol;
 mod reason;
 mod settings;
 mod state;
@@ -57,7 +60,7 @@ fn main() -> ExitCode {
             (Ok(seed), Ok(count)) => generate::versions::run(seed, count, &mut output),
             _ => return usage_error(),
         },
-        ["vectors", word] if probe::WORDS.contains(word) => vectors::run(word, &mut output),
+        ["vectors", set] if vectors::SETS.contains(set) => vectors::run(set, &mut output),
         ["--help"] => output.write_all(USAGE.as_bytes()),
         _ => return usage_error(),
     };

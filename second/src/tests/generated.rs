@@ -10,7 +10,7 @@ use crate::log::record::record;
 use crate::own::Own;
 use crate::probe::answer;
 use crate::step::table::Row;
-use crate::tables::TABLES;
+use crate::tables::{BROADCAST_TABLES, TABLES};
 use crate::timer::Length;
 
 fn commands(seed: u64, count: u64, word: &str) -> Vec<String> {
@@ -235,7 +235,7 @@ fn every_answer_number_is_reached() {
 #[test]
 fn runs_by_each_table_are_judged_under_each_version() {
     let mut random = Random::from_seed(9);
-    for table in TABLES.into_iter().cycle().take(400) {
+    for table in BROADCAST_TABLES.into_iter().cycle().take(400) {
         let lines = versions::round(&mut random, table);
         // True and changed, each under 1, under 2 and under 3.
         assert_eq!(lines.len(), 6);

@@ -1,10 +1,10 @@
 //! The fixed sets show every answer and every row, and are not too long.
 
-use crate::probe::{answer, WORDS};
-use crate::state::State;
+use crate::probe::answer;
+use crate::state::{State, BROADCAST_STATES};
 use crate::step::table::{Next, Trigger};
 use crate::tables::Table;
-use crate::vectors::lines;
+use crate::vectors::{lines, SETS};
 use std::collections::{BTreeSet, HashMap};
 
 /// The answer numbers that a word's set comes to, in order.
@@ -41,7 +41,10 @@ fn every_row_is_taken() {
         .map(|(answered, line)| (line, answered))
         .collect();
     for row in Table::NEWEST.rows() {
-        for (state, next) in row.states.iter().flat_map(|state| leads(*state, row.next)) {
+        let states = BROADCAST_STATES
+            .into_iter()
+            .filter(|state| row.states.contains(state));
+        for (state, next) in states.flat_map(|state| leads(state, row.next)) {
             let found = asked.iter().any(|(line, answered)| {
                 let given: Vec<&str> = line.split(' ').collect();
                 let got: Vec<&str> = answered.split(' ').collect();
@@ -65,6 +68,7 @@ fn every_row_is_taken() {
 fn leads(state: State, next: Next) -> Vec<(State, State)> {
     match next {
         Next::To(next) => vec![(state, next)],
+        Next::Same => vec![(state, state)],
         Next::Back => {
             let asked_from = Table::NEWEST.asked_from().iter();
             asked_from.map(|next| (state, *next)).collect()
@@ -78,7 +82,7 @@ fn every_pair_without_a_row_is_there() {
         .into_iter()
         .filter(|line| answer(line.as_bytes()).starts_with("3 "))
         .collect();
-    for state in crate::state::STATES {
+    for state in BROADCAST_STATES {
         for event in (1..=17).chain([19]) {
             let has_row = Table::NEWEST
                 .rows()
@@ -165,7 +169,7 @@ fn logs_under_two_numbers_are_there() {
 #[test]
 fn sizes() {
     let mut bytes = 0;
-    for word in WORDS {
+    for word in SETS {
         let lines = lines(word);
         assert!(
             (300..=6_500).contains(&lines.len()),

@@ -21,12 +21,16 @@ pub mod step_received;
 pub mod step_returns;
 pub mod write;
 
+use crate::protocol::Protocol;
 use std::collections::HashSet;
 use std::io::{self, Write};
 
-/// Prints the fixed set for one of the six words.
-pub fn run(word: &str, output: &mut dyn Write) -> io::Result<()> {
-    for line in lines(word) {
+/// The fixed sets, each named after its command word.
+pub const SETS: [&str; 6] = ["read", "write", "step", "settings", "judge", "record"];
+
+/// Prints one of the fixed sets.
+pub fn run(set: &str, output: &mut dyn Write) -> io::Result<()> {
+    for line in lines(set) {
         output.write_all(line.as_bytes())?;
         output.write_all(b"\n")?;
     }
@@ -37,8 +41,8 @@ pub fn lines(word: &str) -> Vec<String> {
     let mut lines = Vec::new();
     match word {
         "read" => {
-            read::all(&mut lines);
-            read_optional::all(&mut lines);
+            read::all(&mut lines, Protocol::Broadcast);
+            read_optional::all(&mut lines, Protocol::Broadcast);
         }
         "write" => write::all(&mut lines),
         "step" => {
