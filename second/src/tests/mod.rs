@@ -5,6 +5,9 @@
 
 mod cases;
 mod generated;
+mod group_calls;
+mod group_logs;
+mod group_matrix;
 mod invitations;
 mod limits;
 mod lines;
