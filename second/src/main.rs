@@ -35,10 +35,11 @@ usage: second probe
            prints COUNT commands, the same ones for the same SEED; with words, only those
        second versions SEED COUNT
            prints judge commands: COUNT runs by each table, under the number of each version
-       second vectors WORD
-           prints the fixed set of commands for one word
+       second vectors SET
+           prints one of the fixed sets of commands
        second --help
-words: read write step settings judge record
+words: read write step settings judge record gread gwrite gstep grecord
+sets: the words, and judge16 for the logs of group calls
 ";
 
 fn main() -> ExitCode {

@@ -127,17 +127,20 @@ fn told(context: &Context, outcome: &Outcome) -> String {
         assert_eq!(outcome.context, *context);
         return "3".to_string();
     }
-    let number = outcome.context.state.number();
-    let next = match outcome.context.state == context.state {
+    let (from, next) = (context.state.number(), outcome.context.state.number());
+    cell(from, next, outcome.actions, &outcome.reply)
+}
+
+/// A cell of the matrix for a step that is taken.
+fn cell(from: u8, next: u8, actions: u8, reply: &[u8]) -> String {
+    let name = match next == from {
         true => "=",
-        false => COLUMNS.iter().find(|(_, n)| *n == number).unwrap().0,
+        false => COLUMNS.iter().find(|(_, n)| *n == next).unwrap().0,
     };
-    let mut text = format!("{next} {}", outcome.actions);
-    let sent = sent(&outcome.reply);
-    if !sent.is_empty() {
-        text.push_str(&format!(" {}", sent.join("+")));
+    match sent(reply).join("+").as_str() {
+        "" => format!("{name} {actions}"),
+        messages => format!("{name} {actions} {messages}"),
     }
-    text
 }
 
 /// The messages of a reply: each tells its length by its type.
@@ -146,7 +149,7 @@ fn sent(reply: &[u8]) -> Vec<&'static str> {
     let mut rest = reply;
     while !rest.is_empty() {
         let (name, length) = match Kind::from_type_octet(rest[1]) {
-            Some(Kind::ImmediateSetup) => ("IS", 14),
+            Some(Kind::ImmediateSetup) => ("IS", 12 + usize::from(rest[7])),
             Some(Kind::Setup) => ("SU", 6),
             Some(Kind::Status) => ("ST", 5 + usize::from(rest[2])),
             Some(Kind::TerminationRequest) => ("TR", 6),
@@ -261,6 +264,43 @@ fn every_step_keeps_the_context_fit() {
             assert!(outcome.answer <= 4 && outcome.reply.len() <= 14);
             assert!(outcome.answer == 0 || outcome.context == context);
             assert_eq!(outcome.reason.is_some(), outcome.answer == 1);
+        }
+    }
+}
+
+#[test]
+fn the_fixed_set_has_every_outcome_of_every_cell() {
+    let mut shown = BTreeSet::new();
+    for line in crate::vectors::lines("gstep") {
+        let given: Vec<&str> = line.split(' ').collect();
+        let answered = crate::probe::answer(line.as_bytes());
+        let got: Vec<&str> = answered.split(' ').collect();
+        let number = |token: &str| token.parse::<u8>().unwrap();
+        let outcome = match got[0] {
+            "0" => {
+                let reply = crate::probe::tokens::octets(got[10].as_bytes()).unwrap();
+                cell(number(given[1]), number(got[1]), number(got[9]), &reply)
+            }
+            "3" => "3".to_string(),
+            _ => continue,
+        };
+        shown.insert((given[1].to_string(), given[13].to_string(), outcome));
+    }
+    for row in MATRIX.trim().lines() {
+        let cells: Vec<&str> = row.split('|').map(str::trim).collect();
+        for ((name, number), typed) in COLUMNS.iter().zip(&cells[1..]) {
+            for outcome in typed.split(" / ") {
+                let wanted = (
+                    number.to_string(),
+                    cells[0].to_string(),
+                    outcome.to_string(),
+                );
+                assert!(
+                    shown.contains(&wanted),
+                    "{name}, event {}: {outcome}",
+                    cells[0]
+                );
+            }
         }
     }
 }

@@ -36,6 +36,16 @@ pub const EXAMPLES: [(&str, &[u8], bool); 9] = [
     ),
 ];
 
+/// The examples of this protocol, still addressed as of broadcast calls: in a
+/// group call a TERMINATION REJECT has four octets of cause without a length octet.
+pub fn examples(protocol: Protocol) -> [(&'static str, &'static [u8], bool); 9] {
+    let four_octets: &[u8] = &[0xD1, 0x36, 0x98, 0x00, 0x00, 0x00];
+    EXAMPLES.map(|(name, octets, receives)| match (protocol, name) {
+        (Protocol::Group, "termination_reject") => (name, four_octets, receives),
+        _ => (name, octets, receives),
+    })
+}
+
 /// The octets of the example of this name.
 pub fn example(name: &str) -> Vec<u8> {
     EXAMPLES

@@ -1,7 +1,7 @@
 //! The fixed set for `read`: faults in their order, type codes, tables 8.1 to
 //! 8.9 with each field at its limits and cut at every octet, and lengths.
 
-use super::messages::{behind, example, read, EXAMPLES};
+use super::messages::{behind, example, examples, read};
 use crate::protocol::Protocol;
 
 pub fn all(lines: &mut Vec<String>, protocol: Protocol) {
@@ -15,8 +15,8 @@ pub fn all(lines: &mut Vec<String>, protocol: Protocol) {
 }
 
 /// Each kind whole, cut at every octet, and with bit 7 of its type set.
-fn whole_and_cut(lines: &mut Vec<String>, protocol: Protocol) {
-    for (_, octets, _) in EXAMPLES {
+pub fn whole_and_cut(lines: &mut Vec<String>, protocol: Protocol) {
+    for (_, octets, _) in examples(protocol) {
         for length in 0..=octets.len() {
             lines.push(read(protocol, &octets[..length]));
         }
@@ -37,7 +37,7 @@ fn whole_and_cut(lines: &mut Vec<String>, protocol: Protocol) {
 }
 
 /// All first octets: discriminator, value and flag.
-fn first_octets(lines: &mut Vec<String>, protocol: Protocol) {
+pub fn first_octets(lines: &mut Vec<String>, protocol: Protocol) {
     for first in 0..=255 {
         lines.push(read(protocol, &[first, 0x39]));
     }
@@ -129,8 +129,8 @@ fn length_octets_alone(lines: &mut Vec<String>, protocol: Protocol) {
 
 /// 250 to 253 octets of each kind, filled up with one-octet elements; and 252
 /// octets before every other fault.
-fn longest(lines: &mut Vec<String>, protocol: Protocol) {
-    for (_, octets, _) in EXAMPLES {
+pub fn longest(lines: &mut Vec<String>, protocol: Protocol) {
+    for (_, octets, _) in examples(protocol) {
         for length in [250, 251, 252, 253] {
             let filled = behind(octets, &vec![0x80; length - octets.len()]);
             lines.push(read(protocol, &filled));

@@ -1,6 +1,6 @@
 //! The fixed set for `read`, second part: optional elements behind every kind.
 
-use super::messages::{behind, example, read, EXAMPLES, TAILS};
+use super::messages::{behind, example, examples, read, TAILS};
 use crate::protocol::Protocol;
 
 pub fn all(lines: &mut Vec<String>, protocol: Protocol) {
@@ -13,7 +13,7 @@ pub fn all(lines: &mut Vec<String>, protocol: Protocol) {
 
 /// Each optional part behind each kind, and two of them behind each other.
 fn tails(lines: &mut Vec<String>, protocol: Protocol) {
-    for (_, octets, _) in EXAMPLES {
+    for (_, octets, _) in examples(protocol) {
         for tail in TAILS {
             lines.push(read(protocol, &behind(octets, tail)));
         }
@@ -44,7 +44,7 @@ fn identifiers(lines: &mut Vec<String>, protocol: Protocol) {
 }
 
 /// Identities of 0 to 10 octets, whole and cut by one, then another 17.
-fn identities(lines: &mut Vec<String>, protocol: Protocol) {
+pub fn identities(lines: &mut Vec<String>, protocol: Protocol) {
     for length in 0..=10u8 {
         let mut octets = vec![0x51, 0x39, 0x17, length];
         octets.extend((0..length).map(|place| 0x20 + place));
