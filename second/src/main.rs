@@ -35,6 +35,8 @@ usage: second probe
            prints COUNT commands, the same ones for the same SEED; with words, only those
        second versions SEED COUNT
            prints judge commands: COUNT runs by each table, under the number of each version
+       second group_walks SEED COUNT
+           prints COUNT runs of group calls, as steps and as logs
        second vectors SET
            prints one of the fixed sets of commands
        second --help
@@ -59,6 +61,10 @@ fn main() -> ExitCode {
         },
         ["versions", seed, count] => match (seed.parse(), count.parse()) {
             (Ok(seed), Ok(count)) => generate::versions::run(seed, count, &mut output),
+            _ => return usage_error(),
+        },
+        ["group_walks", seed, count] => match (seed.parse(), count.parse()) {
+            (Ok(seed), Ok(count)) => generate::group_walks::run(seed, count, &mut output),
             _ => return usage_error(),
         },
         ["vectors", set] if vectors::SETS.contains(set) => vectors::run(set, &mut output),

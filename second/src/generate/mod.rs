@@ -2,6 +2,7 @@
 //! They lean towards the places where document 01 draws a line.
 
 pub mod elements;
+pub mod group_walks;
 pub mod judge;
 pub mod log;
 pub mod malformed;
