@@ -4,12 +4,9 @@
 use super::log::true_run_by;
 use super::random::Random;
 use crate::commands;
-use crate::event::Event;
+use crate::event::{all_but_messages, Event, MESSAGE_RECEIVED};
 use crate::log::entry::Entry;
 use crate::tables::Table;
-
-/// Numbers of events of either protocol, those that carry something more often.
-const EVENTS: [u32; 12] = [1, 2, 3, 9, 10, 17, 18, 18, 18, 19, 32, 36];
 
 pub fn command(random: &mut Random, table: Table, long: bool) -> String {
     let mut entry = match random.one_in(2) {
@@ -60,7 +57,10 @@ fn by_chance(random: &mut Random, table: Table) -> Entry {
     Entry {
         delta: random.pick(&[0, 1, 127, 128, 300, 16_383, 16_384, 2_097_152, 86_400_000]),
         event: Event {
-            number: random.pick(&EVENTS),
+            number: match random.one_in(4) {
+                true => MESSAGE_RECEIVED,
+                false => random.pick(&all_but_messages(table)),
+            },
             transaction_value: random.pick(&[0, 3, 6, 6, 7]),
             reference: random.reference(),
             mode: random.pick(&[0, 1, 1, 2]),

@@ -160,8 +160,9 @@ fn everything_pending_is_there_where_it_can_be() {
         let without_comm = ["10", "13"].contains(&state);
         for (parameters, fit) in [(3, "0"), (2, "0246"), (1, "0145"), (0, "01234567")] {
             for pending in fit.chars() {
-                let possible = !(state == "2" && "1357".contains(pending))
-                    && !(without_comm && parameters & 1 == 1);
+                let awaits_in_u1 = state == "2" && "1357".contains(pending);
+                let inconsistent = without_comm && parameters & 1 == 1;
+                let possible = !awaits_in_u1 && !inconsistent;
                 let wanted = (state.to_string(), parameters, pending.to_string());
                 assert_eq!(shown.contains(&wanted), possible, "{wanted:?}");
             }
