@@ -105,8 +105,7 @@ pub fn answer_step(
     buffer: &mut [u8],
     output: Output,
 ) -> Output {
-    let protocol = version::protocol(table);
-    let lent = lent_context(protocol, line, words);
+    let lent = lent_context(version::protocol(table), line, words);
     let lent_words = lent.words;
     let own = own_word(line, lent_words);
     let own_words = own.words;
@@ -126,12 +125,11 @@ pub fn answer_step(
     }
     let said = own.own;
     let happened = event.happened;
-    let kept = lent.lent;
     say_step(
         table,
         buffer,
         output,
-        kept,
+        lent.lent,
         said,
         part(octets, 0, named),
         happened,
