@@ -1,6 +1,7 @@
 // The step table's rows of events, state by state: what it says of an event's number and, for a message, its type code.
 ghost use mathlib.Core.Path.{_≡_};
 ghost use Rattle.codes.specs.declared.state.State.the-variants.{U0, U0p, U1, U2, U3, U4, U5, U6};
+ghost use Rattle.codes.specs.declared.protocol.Protocol.the-variants.{Broadcast};
 ghost use Rattle.transitions.specs.Table.{rowsOf, stepTable, happenedIn, decidedOf};
 use codes::protocol::Protocol;
 use codes::state::State;
@@ -140,10 +141,10 @@ fn in_u1(table: Table, context: Context, number: u8) -> Decision
     let parameters = context.parameters;
     let timers = context.timers;
     match number {
+        4 => row_parts::terminated(table, parameters.orig),
         7 => row_parts::where_true(timers.mmest, row_parts::ENDS),
         14 => row_parts::where_true(timers.mmest, row_parts::ENDS_ABORTING),
         8 => row_parts::ENDS_ABORTING,
-        4 => row_parts::terminated(table, parameters.orig),
         5 => row_parts::ENDS_RELEASING,
         9 => row_parts::ENDS_INFORMING_ABORTING,
         0..=3 | 6..=6 | 10..=13 | 15..=255 => Decision::NoStep,

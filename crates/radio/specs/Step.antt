@@ -1,6 +1,6 @@
 -- Document 01, "Answer numbers": the step as the host has it, its tests in their order, and what it answers and writes.
 use Prim.Native.Nat.{ℕ}
-use mathlib.Core.List.{List, [], _∷_}
+use mathlib.Core.List.{List, [], _∷_, _++_}
 use mathlib.Core.Bool.{cond, not}
 use lib.ListN.{length}
 use lib.Dec.{eqb}
@@ -32,11 +32,16 @@ use Rattle.call.specs.declared.Event.the-variants.{
   ConnReqExpired,
   NoChannelExpired,
   PresExpired,
+  ReceiveModeRequested,
+  TalkRequested,
+  TransmitModeEntered,
+  DedicatedModeEntered,
+  TerminationDeleted,
 }
 use Rattle.call.specs.declared.Settled.{Settled}
 use Rattle.call.specs.Due.{settled}
 use Rattle.reply.specs.declared.Own.{Own}
-use Rattle.reply.specs.Reply.{replyOf, putOf}
+use Rattle.reply.specs.Reply.{replyOf, putAll}
 use Rattle.step_arguments.specs.Arguments.{argumentRefusal}
 use Rattle.radio.specs.declared.Happened.{Happened}
 use Rattle.radio.specs.declared.Outcome.{Outcome}
@@ -46,8 +51,8 @@ use Rattle.radio.specs.declared.Told.the-variants.{Is, NoEvent}
 use Rattle.received.specs.Due.{dueOf}
 
 -- Event numbers. 18, message received, goes by "Received messages".
-abbrev pub events : ℕ → Reference → List (ℕ × Told)
-events value reference =
+abbrev pub callEvents : ℕ → Reference → List (ℕ × Told)
+callEvents value reference =
     (1, Is (SetUp value reference)) ∷  -- set-up request
     (2, Is (ImmediateSetUp value reference)) ∷  -- immediate set-up request
     (3, Is Join) ∷  -- join
@@ -68,6 +73,19 @@ events value reference =
     (18, NoEvent) ∷  -- message received
     (19, Is PresExpired) ∷  -- expiry of T_pres
     []
+
+-- A group call has five more, from 32 on.
+abbrev pub talkEvents : List (ℕ × Told)
+talkEvents =
+    (32, Is ReceiveModeRequested) ∷  -- request receive mode: stop talking
+    (33, Is TalkRequested) ∷  -- request talk: the uplink
+    (34, Is TransmitModeEntered) ∷  -- group transmit mode entered
+    (35, Is DedicatedModeEntered) ∷  -- dedicated mode entered
+    (36, Is TerminationDeleted) ∷  -- delete the pending termination request
+    []
+
+abbrev pub events : ℕ → Reference → List (ℕ × Told)
+events value reference = callEvents value reference ++ talkEvents
 
 unfoldable pub eventOf : ℕ → ℕ → Reference → Told
 eventOf number value reference = rows number NoEvent (events value reference)
@@ -104,7 +122,7 @@ reacted protocol own identity s taken = record {
   reason = taken .reason;
   context = taken .context;
   actions = taken .actions;
-  reply = replyOf protocol own identity s (taken .context) (taken .sends);
+  reply = replyOf protocol own identity s (taken .context) (taken .sends) (taken .sent);
 }
 
 -- Why a step is refused, as the answer's number, and 0 where it is not; in two parts. The first: 7, the context is not fit.
@@ -132,7 +150,7 @@ takenOf table own identity room x h s =
       reason = taken .reason;
       context = taken .context;
       actions = taken .actions;
-      reply = putOf (protocolOf table) room own identity s (taken .context) (taken .sends);
+      reply = putAll (protocolOf table) room own identity s (taken .context) (taken .sends) (taken .sent);
     }
 
 -- A reaction as the code's result: the reply's octets stand in the buffer, and the result has their count.

@@ -1,23 +1,29 @@
 -- How long a STATUS is, and so how many octets of the message received an error STATUS copies.
-use Prim.Native.Nat.{ℕ, suc, _+_, _≤_, _<_}
+use Prim.Native.Nat.{ℕ, _+_, _≤_, _<_}
 use mathlib.Core.Path.{_≡_, refl, sym, ap, _∙_}
 use mathlib.Core.List.{List, [], _∷_}
 use mathlib.Core.Bool.{Bool, true, false, cond, _&&_, and-false}
 use native.Mathlib.Omega.{arith}
 use lib.Dec.{leb}
-use lib.ListN.{length, take, length-append}
+use lib.ListN.{length, length-append}
 use lib.Seq.{take-length}
 use borrow.Author.Tests.{le-leb, lt-leb, leb-true, leb-false}
 use Rattle.octets.specs.Run.{part}
+use Rattle.message.specs.declared.Half.the-variants.{Present}
+use Rattle.message.specs.Content.{status}
 use Rattle.message.specs.Tables.{table, written}
 use Rattle.codes.specs.declared.protocol.Protocol.{Protocol}
 use Rattle.context.specs.declared.Context.{Context}
 use Rattle.reply.specs.Reply.{sent, statusOf, causeOctet, copied, copyCount}
 
 -- Head, type, length octet, cause, call state and state attributes.
+pub telling-length : (protocol : Protocol) (x : Context) (cause : List ℕ) (state attributes : ℕ) → length (sent protocol x (status cause (Present state) (Present attributes))) ≡ 5 + length cause
+unfolding sent written table
+telling-length protocol x cause state attributes = simp length-append (omega arith)
+
 pub status-length : (protocol : Protocol) (x : Context) (cause : List ℕ) → length (sent protocol x (statusOf x cause)) ≡ 5 + length cause
-unfolding sent statusOf written table
-status-length protocol x cause = simp length-append (omega arith)
+unfolding statusOf
+status-length protocol x cause = telling-length protocol x cause _ _
 
 -- The copy is made exactly if the message received has at most 245 octets.
 pub copied-is : (protocol : Protocol) (x : Context) (cause : ℕ) (s : List ℕ) → copied protocol x cause s ≡ cond (leb (length s) 245) s []

@@ -1,5 +1,5 @@
 -- What the writer answers and leaves is what the contracts of this crate say; a run that is the whole source is the source.
-use Prim.Native.Nat.{ℕ, suc, _+_, _≤_}
+use Prim.Native.Nat.{ℕ, _+_, _≤_}
 use mathlib.Core.Path.{_≡_, refl, sym, ap, _∙_}
 use mathlib.Core.List.{List, [], _∷_}
 use mathlib.Core.Bool.{Bool, true, false, cond, not, _&&_}
@@ -10,12 +10,13 @@ use lib.Seq.{sets, length-sets, take-length}
 use borrow.Author.Tests.{le-leb}
 use Rattle.octets.specs.Run.{part}
 use Rattle.octets.proofs.Stores.{part-length, over-start}
+use Rattle.codes.specs.declared.state.State.{State}
+use Rattle.codes.specs.declared.attributes.Parameters.{Parameters}
 use Rattle.codes.specs.CallStates.{callStateCode}
 use Rattle.codes.specs.Attributes.{attributesOf}
 use Rattle.octets.specs.declared.Run.{Run}
 use Rattle.octets.specs.declared.Reference.{Reference}
 use Rattle.message.specs.declared.Classmark.{Classmark}
-use Rattle.message.specs.declared.Half.{Half}
 use Rattle.message.specs.declared.Half.the-variants.{Present}
 use Rattle.message.specs.declared.Message.{Message}
 use Rattle.message.specs.declared.Message.the-variants.{ImmediateSetup, Setup, TerminationRequest, Status}
@@ -26,11 +27,11 @@ use Rattle.writing.specs.declared.Wrote.the-variants.{Written, ShortBuffer, Out
 use Rattle.writing.specs.Writing.{writable, octetsWritten, writeAnswer, writeLeaves}
 use Rattle.codes.specs.declared.protocol.Protocol.{Protocol}
 use Rattle.context.specs.declared.Context.{Context}
-use Rattle.context.specs.States.{flagOf}
+use Rattle.context.specs.Talk.{flagOf}
 use Rattle.transitions.specs.declared.Send.{Send}
 use Rattle.reply.specs.declared.Own.{Own}
-use Rattle.reply.specs.Reply.{flagSent, sent, statusOf, causeOctet, copied, copyCount, putContent, putOf}
-use Rattle.reply.specs.Put.{countOf, putFrom}
+use Rattle.reply.specs.Reply.{flagSent, sent, statusOf, causeOctet, copied, copyCount, hearing, putContent, putOf}
+use Rattle.reply.specs.Put.{countOf, statusTelling, putFrom}
 use Rattle.reply.proofs.Copied.{copied-part}
 
 answered : (a b : Bool) (w : List ℕ) → countOf (cond a ShortBuffer (cond b (Written (length w)) OutOfRange)) ≡ length (cond a [] (cond b w []))
@@ -56,6 +57,11 @@ module _ (protocol : Protocol) (d s : List ℕ) (x : Context) (m : Message) (f :
   put-leaves after p = p ∙ ap (λ (g : Bool). writeLeaves protocol d s (not g) (x .value) m) e
       ∙ left (ltb (length d) 255) (writable protocol s (flagSent x) (x .value) m) d (octetsWritten protocol s (flagSent x) (x .value) m)
 
+-- `status_telling`: the state as its code, the parameters as attributes.
+pub telling : (cause : Run) (state : State) (p : Parameters) (code attributes : ℕ) → code ≡ callStateCode state → attributes ≡ attributesOf p
+    → Status cause (Present code) (Present attributes) ≡ statusTelling cause state p
+telling cause state p code attributes e f = rw (e, f)
+
 -- A message whose runs lie within the source is written as its content.
 module _ (protocol : Protocol) (room : ℕ) (s : List ℕ) (x : Context) where
   lying : (t : Bool) (c c′ : Content) → t ≡ true → c ≡ c′
@@ -69,15 +75,17 @@ module _ (protocol : Protocol) (room : ℕ) (s : List ℕ) (x : Context) where
   immediate-from key classmark r =
       lying (leb (0 + length s) (length s)) (immediateSetup key classmark (part s 0 (length s)) r) (immediateSetup key classmark s r) (le-leb (0 + length s) (length s) (omega arith)) (ap (λ (i : List ℕ). immediateSetup key classmark i r) (take-length s))
 
-  pub status-from : (zeros cause : List ℕ) (count code attributes : ℕ) → s ≡ sets zeros 0 cause → length zeros ≡ 246 → length cause ≡ 1 + count → count ≤ 245
-      → code ≡ callStateCode (x .state) → attributes ≡ attributesOf (x .parameters)
-      → putFrom protocol room s x (Status (record { start = 0; count = 1 + count }) (Present code) (Present attributes)) ≡ putContent protocol room x (statusOf x cause)
+  pub status-from : (zeros cause : List ℕ) (count : ℕ) → s ≡ sets zeros 0 cause → length zeros ≡ 246 → length cause ≡ 1 + count → count ≤ 245
+      → (m : Message) → m ≡ statusTelling (record { start = 0; count = 1 + count }) (x .state) (x .parameters)
+      → putFrom protocol room s x m ≡ putContent protocol room x (statusOf x cause)
   unfolding putFrom writable lies statusOf
-  status-from zeros cause count code attributes e z l h p q =
+  status-from zeros cause count e z l h m p =
       let n : length s ≡ 246 = ap length e ∙ length-sets zeros 0 cause ∙ z in
       let k : length cause ≤ length zeros = omega arith in
       let t : take (1 + count) s ≡ cause = ap (λ (j : ℕ). take j s) (sym l) ∙ ap (take (length cause)) e ∙ over-start zeros cause k in
-      lying (leb (0 + (1 + count)) (length s)) (status (part s 0 (1 + count)) (Present code) (Present attributes)) (statusOf x cause) (le-leb (0 + (1 + count)) (length s) (omega arith)) (rw (t, p, q))
+      ap (putFrom protocol room s x) p
+      ∙ lying (leb (0 + (1 + count)) (length s)) (status (part s 0 (1 + count)) (Present (callStateCode (x .state))) (Present (attributesOf (x .parameters)))) (statusOf x cause)
+      (le-leb (0 + (1 + count)) (length s) (omega arith)) (rw t)
 
   pub setup-from : (r : Reference) → putFrom protocol room s x (Setup r) ≡ putContent protocol room x (setup r)
   unfolding putFrom writable putContent sent
@@ -87,9 +95,13 @@ module _ (protocol : Protocol) (room : ℕ) (s : List ℕ) (x : Context) where
   unfolding putFrom writable putContent sent
   request-from r = refl
 
-  pub error-from : (cause count : ℕ) → count ≡ copyCount (length s)
-      → putContent protocol room x (statusOf x (causeOctet cause ∷ part s 0 count)) ≡ putContent protocol room x (statusOf x (causeOctet cause ∷ copied protocol x cause s))
-  error-from cause count e = ap (λ (w : List ℕ). putContent protocol room x (statusOf x (causeOctet cause ∷ w))) (ap (part s 0) e ∙ copied-part protocol x cause s)
+-- A report is sent in the context that hears it.
+pub error-from : (protocol : Protocol) (room : ℕ) (s : List ℕ) (x y : Context) (cause count : ℕ) → y ≡ hearing s x → count ≡ copyCount (length s)
+    → putContent protocol room y (statusOf y (causeOctet cause ∷ part s 0 count))
+    ≡ putContent protocol room (hearing s x) (statusOf (hearing s x) (causeOctet cause ∷ copied protocol (hearing s x) cause s))
+error-from protocol room s x y cause count h e =
+    ap (λ (z : Context). putContent protocol room z (statusOf z (causeOctet cause ∷ part s 0 count))) h
+    ∙ ap (λ (w : List ℕ). putContent protocol room (hearing s x) (statusOf (hearing s x) (causeOctet cause ∷ w))) (ap (part s 0) e ∙ copied-part protocol (hearing s x) cause s)
 
 -- The octets of a cause and a copy, counted.
 pub cause-length : (c : ℕ) (s : List ℕ) (count : ℕ) → count ≤ length s → length (c ∷ part s 0 count) ≡ 1 + count

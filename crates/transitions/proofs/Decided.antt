@@ -104,6 +104,10 @@ module _ (fitness : Fitness) (most : ℕ) (table : List Row) (sound : Sound fitn
   sets-rightly fit =
       decided-holds (setsRightly fitness) (λ k. OfTaken (SetRightly x)) x (λ k d e. if-so _ _ e (fit-timers fitness x fit)) (λ k. tt) (λ cause. tt) table (sound .set-rightly) (λ u. tt) tt (λ u. tt)
 
+  -- No row sends a STATUS of its own.
+  pub decided-plain : (n code : ℕ) → OfTaken (λ d. isPlain (d .sends) ≡ true) (decidedBy table x n code)
+  decided-plain = decided-holds sendsPlain (λ k. OfTaken (λ d. isPlain (d .sends) ≡ true)) x (λ k d e. e) (λ k. tt) (λ cause. tt) table (sound .sent-plain) (λ u. tt) tt (λ u. tt)
+
   pub event-plain : (n code : ℕ) → eqb n 18 ≡ false → Plain (decidedBy table x n code)
   event-plain =
       decided-holds sendsPlain (λ k c. eqb k 18 ≡ false → Plain c) x (λ k d e f. e) (λ k f. tt) (λ cause f. never (sym f)) table (sound .sent-plain) (λ u f. never (sym f))

@@ -20,7 +20,7 @@ returns : tie.Need-returns
 returns c =
     let wrote = c .before .before in
     let told = wrote .before .before in
-    let reacts = told .before .before in
+    let reacts = told .before .before .before in
     let start = reacts .before .before .before .before in
     takes (start .args .table) (start .args .own) (start .args .identity .now) (start .args .reply .now) (start .args .context) (start .args .happened) (start .args .octets .now) _ (reacts .react .ensures) _ (told .protocol .ensures) _ _ (wrote .put .ensures)
 
