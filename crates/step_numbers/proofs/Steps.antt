@@ -52,9 +52,9 @@ module _ (table : Table) (s d : List ℕ) (x : Context) (e : Occurrence) (m : Li
 module _ (table : Table) (c s d : List ℕ) (e : Occurrence) (m : List ℕ) where
   pub call-is : (x : Context) → contextOf c ≡ Is x → (r : Step) (octets after : List ℕ) → Comes (callFrom table s (length d) e m x) d r octets after
       → Comes (callOf table c s (length d) e m) d r octets after
-  unfolding callOf table callOn
+  unfolding callOf callOn
   call-is x i r octets after p = rw i p
 
   pub call-none : contextOf c ≡ NoContext → Comes (callOf table c s (length d) e m) d (noCall c .step) c d
-  unfolding callOf table callOn
+  unfolding callOf callOn
   call-none n = rw n (refl, refl, refl)
