@@ -25,7 +25,7 @@ use Rattle.call.specs.Step.{noStep, carriedOut, stepBy}
 use Rattle.codes.specs.declared.protocol.Protocol.{Protocol}
 use Rattle.version.specs.Version.{greatestActions, protocolOf}
 use Rattle.reply.specs.declared.Own.{Own}
-use Rattle.reply.specs.Reply.{replyOf}
+use Rattle.reply.proofs.Fits.{plain-reply}
 use Rattle.step_arguments.specs.Arguments.{outOfRange, argumentRefusal}
 use Rattle.radio.specs.declared.Told.{Told}
 use Rattle.radio.specs.declared.Told.the-variants.{Is, NoEvent}
@@ -36,15 +36,6 @@ use Rattle.verdict.specs.Table.{GivenEvent, stepped}
 use Rattle.verdict.specs.Entries.{carriedBy}
 
 -- ---- only the answer to a message copies it
-
-plain-reply : (protocol : Protocol) (own : Own) (identity s u : List ℕ) (x : Context) (sends : Send) → isPlain sends ≡ true → replyOf protocol own identity s x sends ≡ replyOf protocol own identity u x sends
-unfolding replyOf
-plain-reply protocol own identity s u x Nothing e = refl
-plain-reply protocol own identity s u x ImmediateSetup e = refl
-plain-reply protocol own identity s u x Setup e = refl
-plain-reply protocol own identity s u x TerminationRequest e = refl
-plain-reply protocol own identity s u x (Status cause) e = never e
-plain-reply protocol own identity s u x (ErrorStatus cause) e = never e
 
 abbrev PlainTaken : Settled → Type 0
 PlainTaken t = isPlain (t .sends) ≡ true
@@ -83,7 +74,7 @@ module _ (table : Table) (own : Own) (identity : List ℕ) (x : Context) (e : Gi
 
   -- Without a message, the octets do not matter.
   no-octets : (t : Told) → NoMessage t → (s u : List ℕ) → reacted (protocolOf table) own identity s (settled table x (toldDue t)) ≡ reacted (protocolOf table) own identity u (settled table x (toldDue t))
-  no-octets t h s u = rw (plain-reply (protocolOf table) own identity s u (settled table x (toldDue t) .context) (settled table x (toldDue t) .sends) (event-plain table x t h))
+  no-octets t h s u = rw (plain-reply (protocolOf table) own identity s u (settled table x (toldDue t) .context) (settled table x (toldDue t) .sends) (settled table x (toldDue t) .sent) (event-plain table x t h))
 
   -- Without a call, the value and the reference do not matter.
   no-call : carriesCall number ≡ false → (v w : ℕ) (r q : Reference) → eventOf number v r ≡ eventOf number w q
