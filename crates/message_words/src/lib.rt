@@ -38,7 +38,7 @@ pub fn tell_apart(octets: &[u8]) -> u8 {
     let protocol = protocol_of(octet_at(octets, 0));
     match message::read(protocol, octets) {
         Reading::TooLong => tell_too_long(octets),
-        Reading::Unreadable(fault) => tell_unreadable(octets, fault),
+        Reading::Unreadable(fault) => tell_unreadable(protocol, octets, fault),
         Reading::Is {
             flag,
             value,
@@ -133,11 +133,11 @@ fn tell_too_long(octets: &[u8]) -> u8 {
     1
 }
 
-fn tell_unreadable(octets: &[u8], fault: Fault) -> u8 {
+fn tell_unreadable(protocol: Protocol, octets: &[u8], fault: Fault) -> u8 {
     tell(b"unreadable (answer 13, fault ");
     tell_number(fault_number(fault));
     tell(b"): ");
-    tell_fault(octets, fault);
+    tell_fault(protocol, octets, fault);
     tell(b"\n");
     tell_heads(octets);
     1
@@ -340,7 +340,7 @@ fn tell_one(octets: &[u8], from: usize, at: usize, kind: u8) {
         return;
     }
     if (kind == message_type::STATUS) & is_first(octets, from, at, 0xa0, 0xaf) {
-        tell_state_of(protocol_of(octet_at(octets, 0)), identifier % 16);
+        tell_call_state(protocol_of(octet_at(octets, 0)), identifier % 16);
         return;
     }
     if (kind == message_type::STATUS) & is_first(octets, from, at, 0xb0, 0xbf) {
@@ -348,18 +348,6 @@ fn tell_one(octets: &[u8], from: usize, at: usize, kind: u8) {
         return;
     }
     tell_skipped(identifier, is_whole(octets, at));
-}
-
-// Of a group call's state the code alone.
-fn tell_state_of(protocol: Protocol, code: u8) {
-    match protocol {
-        Protocol::Broadcast => tell_call_state(code),
-        Protocol::Group => {
-            tell(b"call state ");
-            tell_number(code);
-            tell(b"\n");
-        }
-    }
 }
 
 // The first mobile identity of GET STATUS, whose length octet is at `place`: it counts if it has 1 to 8 octets and is whole.

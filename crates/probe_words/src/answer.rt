@@ -12,6 +12,7 @@ use text::words::Words;
 use text::words::next_word;
 use text::words::part;
 use text::words::same;
+use version::Table;
 
 // Answers a line. `octets` is lent for the octets that its words spell.
 pub(crate) fn answer_line(
@@ -55,6 +56,12 @@ fn command_of(name: &[u8]) -> u8 {
     if same(name, b"gwrite") {
         return 8;
     }
+    if same(name, b"gstep") {
+        return 9;
+    }
+    if same(name, b"grecord") {
+        return 10;
+    }
     0
 }
 
@@ -69,12 +76,14 @@ fn answer_command(
     match command {
         1 => answer_read(Protocol::Broadcast, line, rest, octets, buffer, output),
         2 => answer_write(Protocol::Broadcast, line, rest, octets, buffer, output),
-        3 => answer_step(line, rest, octets, buffer, output),
+        3 => answer_step(version::NEWEST, line, rest, octets, buffer, output),
         4 => answer_settings(line, rest, octets, buffer, output),
         5 => answer_judge(line, rest, octets, buffer, output),
-        6 => answer_record(line, rest, octets, buffer, output),
+        6 => answer_record(version::NEWEST, line, rest, octets, buffer, output),
         7 => answer_read(Protocol::Group, line, rest, octets, buffer, output),
         8 => answer_write(Protocol::Group, line, rest, octets, buffer, output),
+        9 => answer_step(Table::Group, line, rest, octets, buffer, output),
+        10 => answer_record(Table::Group, line, rest, octets, buffer, output),
         _ => malformed(buffer, output),
     }
 }

@@ -17,6 +17,7 @@ answer-step-spec =
     (λ c κs. search needs)
     (λ c κs. search needs)
     (λ c κs. search needs)
+    (λ c κs. search needs)
     (λ c. c .before .before .before .before .before .before .before .before .before .octets-word2 .kept .1 .1 .0 ∙ c .before .before .before .before .before .before .before .before .before .before .before .before .before .before .before .before .before .before .before .octets-word .kept .1 .1 .0)
     (λ c. search needs)
     (λ c. search needs)
