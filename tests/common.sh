@@ -12,7 +12,10 @@ build_second() {
 }
 
 # The command words of the line protocol, which both programs have.
-words="read write step settings judge record"
+words="read write step settings judge record gread gwrite gstep grecord"
+
+# The fixed sets of vectors: one for each word, and the logs of group calls.
+sets="$words judge16"
 
 # same_answers COMMANDS EXPECTED FOUND: compares line by line; tells the first commands whose answers differ.
 same_answers() {

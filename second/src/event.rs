@@ -1,5 +1,5 @@
 //! Events by their numbers, and what each of them carries (document 01,
-//! "Events and steps"; document 02, A13, for event 19).
+//! "Events and steps"; document 02, A13, for event 19 and A5 for 32 to 36).
 
 use crate::tables::Table;
 
@@ -22,6 +22,11 @@ pub const EXPIRY_CONN_REQ: u32 = 16;
 pub const EXPIRY_NO_CHANNEL: u32 = 17;
 pub const MESSAGE_RECEIVED: u32 = 18;
 pub const EXPIRY_PRES: u32 = 19;
+pub const RECEIVE_MODE_REQUEST: u32 = 32;
+pub const TALK_REQUEST: u32 = 33;
+pub const GROUP_TRANSMIT_MODE_ENTERED: u32 = 34;
+pub const DEDICATED_MODE_ENTERED: u32 = 35;
+pub const DELETE_PENDING_TERMINATION: u32 = 36;
 
 /// Mode of event 18: 0 is acknowledged, 1 is not, and nothing lies above.
 pub const UNACKNOWLEDGED: u32 = 1;
@@ -54,13 +59,16 @@ pub fn carries(table: Table, number: u32) -> Option<Carries> {
         MESSAGE_RECEIVED => Some(Carries::Message),
         1..=17 => Some(Carries::Nothing),
         EXPIRY_PRES if table == Table::Third => Some(Carries::Nothing),
+        RECEIVE_MODE_REQUEST..=DELETE_PENDING_TERMINATION if table == Table::Group => {
+            Some(Carries::Nothing)
+        }
         _ => None,
     }
 }
 
 /// The numbers of this table's events that are no message.
 pub fn all_but_messages(table: Table) -> Vec<u32> {
-    (1..=EXPIRY_PRES)
+    (1..=DELETE_PENDING_TERMINATION)
         .filter(|number| *number != MESSAGE_RECEIVED && carries(table, *number).is_some())
         .collect()
 }

@@ -1,8 +1,10 @@
 //! The second program: document 01, what document 02 changes in it and the
-//! standard (GSM 04.69, 7.2.0) written down once more, so that another program can be compared with it command by
+//! standards (GSM 04.69, 7.2.0, and for group calls 24.068, 3.1.0) written down
+//! once more, so that another program can be compared with it command by
 //! command. This file has the subcommands alone.
 
 mod answer;
+mod call;
 mod commands;
 mod context;
 mod event;
@@ -11,6 +13,7 @@ mod log;
 mod message;
 mod own;
 mod probe;
+mod protocol;
 mod reason;
 mod settings;
 mod state;
@@ -32,10 +35,13 @@ usage: second probe
            prints COUNT commands, the same ones for the same SEED; with words, only those
        second versions SEED COUNT
            prints judge commands: COUNT runs by each table, under the number of each version
-       second vectors WORD
-           prints the fixed set of commands for one word
+       second group_walks SEED COUNT
+           prints COUNT runs of group calls, as steps and as logs
+       second vectors SET
+           prints one of the fixed sets of commands
        second --help
-words: read write step settings judge record
+words: read write step settings judge record gread gwrite gstep grecord
+sets: the words, and judge16 for the logs of group calls
 ";
 
 fn main() -> ExitCode {
@@ -57,7 +63,11 @@ fn main() -> ExitCode {
             (Ok(seed), Ok(count)) => generate::versions::run(seed, count, &mut output),
             _ => return usage_error(),
         },
-        ["vectors", word] if probe::WORDS.contains(word) => vectors::run(word, &mut output),
+        ["group_walks", seed, count] => match (seed.parse(), count.parse()) {
+            (Ok(seed), Ok(count)) => generate::group_walks::run(seed, count, &mut output),
+            _ => return usage_error(),
+        },
+        ["vectors", set] if vectors::SETS.contains(set) => vectors::run(set, &mut output),
         ["--help"] => output.write_all(USAGE.as_bytes()),
         _ => return usage_error(),
     };

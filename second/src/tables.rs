@@ -1,7 +1,8 @@
 //! The step tables that a call can follow, and all in which they differ but
 //! their rows and timers, which stand in `step::table` and `timer`. A log is
-//! judged by the table of its version (document 02, A2 and A13).
+//! judged by the table of its version (document 02, A2, A13 and A5).
 
+use crate::protocol::Protocol;
 use crate::state::State::{self, *};
 use crate::timer::Setting;
 use Table::*;
@@ -14,14 +15,34 @@ pub enum Table {
     Second,
     /// A13: besides, an invitation runs out.
     Third,
+    /// A5: a group call with talk-back.
+    Group,
 }
 
 /// Every table, in the order of their versions.
-pub const TABLES: [Table; 3] = [First, Second, Third];
+pub const TABLES: [Table; 4] = [First, Second, Third, Group];
+/// Those of a broadcast call.
+pub const BROADCAST_TABLES: [Table; 3] = [First, Second, Third];
 
 impl Table {
-    /// What the step and the recorder follow; older tables live in the judge alone.
+    /// What the step and the recorder of a broadcast call follow; older tables
+    /// live in the judge alone.
     pub const NEWEST: Table = Third;
+
+    /// What the step and the recorder of this protocol follow.
+    pub fn newest_of(protocol: Protocol) -> Table {
+        match protocol {
+            Protocol::Broadcast => Table::NEWEST,
+            Protocol::Group => Group,
+        }
+    }
+
+    pub fn protocol(self) -> Protocol {
+        match self {
+            First | Second | Third => Protocol::Broadcast,
+            Group => Protocol::Group,
+        }
+    }
 
     /// The number that begins a log of this table.
     pub fn version(self) -> u32 {
@@ -29,6 +50,7 @@ impl Table {
             First => 1,
             Second => 2,
             Third => 3,
+            Group => 16,
         }
     }
 
@@ -42,6 +64,8 @@ impl Table {
         match self {
             First => &[],
             Second | Third => &[U1, U2],
+            // COMM is false in the other two sub-states, so nothing is sent from them.
+            Group => &[U1, U2sl, U2wr, U2ws, U2sr],
         }
     }
 
@@ -49,6 +73,7 @@ impl Table {
     pub fn greatest_state(self) -> u32 {
         match self {
             First | Second | Third => 7,
+            Group => 13,
         }
     }
 
@@ -56,6 +81,7 @@ impl Table {
     pub fn greatest_actions(self) -> u32 {
         match self {
             First | Second | Third => 63,
+            Group => 127,
         }
     }
 
@@ -63,7 +89,7 @@ impl Table {
     /// which the judge reports them.
     pub fn settings(self) -> &'static [Setting] {
         match self {
-            First | Second => &[Setting::Joining],
+            First | Second | Group => &[Setting::Joining],
             Third => &[Setting::Joining, Setting::Invitation],
         }
     }

@@ -1,5 +1,5 @@
 //! The five timers: how long they run and, by the table, in which states
-//! (document 01, "The context"; document 02, A2 and A13; the standard, table 6.1).
+//! (document 01, "The context"; document 02, A2, A13 and A5; table 6.1 of either standard).
 
 use crate::state::State;
 use crate::tables::Table;
@@ -80,6 +80,7 @@ mod rows {
     pub const TERM: TimerRow            = TimerRow { timer: Term,      length: Milliseconds(10_000), always_in: &[U5],  optionally_in: &[],   expiry: 15 };
     pub const CONN_REQ: TimerRow        = TimerRow { timer: ConnReq,   length: Set(Joining),         always_in: &[U4],  optionally_in: &[],   expiry: 16 };
     pub const NO_CHANNEL: TimerRow      = TimerRow { timer: NoChannel, length: Milliseconds(3_000),  always_in: &[],    optionally_in: &[U6], expiry: 17 };
+    pub const NO_CHANNEL_BOUND: TimerRow = TimerRow { timer: NoChannel, length: Milliseconds(3_000), always_in: &[U2nc], optionally_in: &[],  expiry: 17 };
     pub const NEVER_PRES: TimerRow      = TimerRow { timer: Pres,      length: Set(Invitation),      always_in: &[],    optionally_in: &[],   expiry: 19 };
     pub const PRES: TimerRow            = TimerRow { timer: Pres,      length: Set(Invitation),      always_in: &[U3],  optionally_in: &[],   expiry: 19 };
 }
@@ -94,6 +95,7 @@ impl Table {
             Table::First => &[MM_EST, TERM_AT_FIRST, CONN_REQ, NO_CHANNEL, NEVER_PRES],
             Table::Second => &[MM_EST, TERM, CONN_REQ, NO_CHANNEL, NEVER_PRES],
             Table::Third => &[MM_EST, TERM, CONN_REQ, NO_CHANNEL, PRES],
+            Table::Group => &[MM_EST, TERM, CONN_REQ, NO_CHANNEL_BOUND, NEVER_PRES],
         }
     }
 }

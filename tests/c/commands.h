@@ -1,17 +1,21 @@
-/* The six commands of the line protocol (docs/PROBE.md), answered through the C library. Each takes the words behind its own and prints its answer without the
- * line's end, or prints nothing and is false where the line is malformed. Each also looks at what a line can't show: see lent.h. */
+/* The commands of the line protocol (docs/PROBE.md), answered through the C library; of a group call by the functions of group calls. Each takes the words behind its
+ * own and prints its answer without the line's end, or prints nothing and is false where the line is malformed. Each also looks at what a line can't show: see
+ * lent.h. */
 #ifndef COMMANDS_H
 #define COMMANDS_H
 #include "heidezirkel.h"
 #include "lent.h"
 #include "line.h"
 
-bool read_command(struct line *line);
-bool write_command(struct line *line);
-bool step_command(struct line *line);
-bool settings_command(struct line *line);
-bool judge_command(struct line *line);
-bool record_command(struct line *line);
+enum call { BROADCAST, GROUP };
+
+bool read_command(struct line *line, enum call call);
+bool write_command(struct line *line, enum call call);
+bool step_command(struct line *line, enum call call);
+bool record_command(struct line *line, enum call call);
+/* Settings and logs are of any call. */
+bool settings_command(struct line *line, enum call call);
+bool judge_command(struct line *line, enum call call);
 
 /* The words KEY CLASSMARK IDENTITY as settings octets; those behind the identity, and the timers', hold what may be anything. */
 void settings_words(struct line *line, uint8_t settings[HEIDEZIRKEL_SETTINGS_OCTETS]);

@@ -1,4 +1,4 @@
-/* The commands `judge` and `record`. */
+/* The commands `judge`, `record` and `grecord`. */
 #include "commands.h"
 #include <stdio.h>
 #include <string.h>
@@ -31,7 +31,8 @@ static void look_at_judgement(struct heidezirkel_judgement judged, const struct 
     refusals_seen += !accepts;
 }
 
-bool judge_command(struct line *line) {
+bool judge_command(struct line *line, enum call call) {
+    (void)call;
     uint8_t own[HEIDEZIRKEL_SETTINGS_OCTETS];
     settings_words(line, own);
     struct octets bytes = octets_word(line);
@@ -75,12 +76,12 @@ static struct entry entry_words(struct line *line) {
     return entry;
 }
 
-static struct heidezirkel_used record(const struct lent *log, const struct entry *entry) {
+static struct heidezirkel_used record(const struct lent *log, const struct entry *entry, enum call call) {
     struct lent message = lend_octets(entry->message.at, entry->message.count);
     struct lent context = lend_octets(entry->context, 16);
     struct lent reply = lend_octets(entry->reply.at, entry->reply.count);
-    struct heidezirkel_used recorded = heidezirkel_record(log->octets, log->length, entry->used, entry->delta, entry->event,
-        message.octets, message.length, entry->step, context.octets, reply.octets, reply.length);
+    struct heidezirkel_used recorded = (call == GROUP ? heidezirkel_group_record : heidezirkel_record)(log->octets, log->length, entry->used,
+        entry->delta, entry->event, message.octets, message.length, entry->step, context.octets, reply.octets, reply.length);
     promise(kept(&message, 0) && kept(&context, 0) && kept(&reply, 0), "record: message, context or reply changed");
     give_back(&message);
     give_back(&context);
@@ -96,13 +97,13 @@ static void look_at_record(struct heidezirkel_used recorded, const struct lent *
     refusals_seen += !takes;
 }
 
-bool record_command(struct line *line) {
+bool record_command(struct line *line, enum call call) {
     struct octets bytes = octets_word(line);
     struct entry entry = entry_words(line);
     if (!whole(line))
         return false;
     struct lent log = lend_octets(bytes.at, bytes.count);
-    struct heidezirkel_used recorded = record(&log, &entry);
+    struct heidezirkel_used recorded = record(&log, &entry, call);
     look_at_record(recorded, &log, entry.used);
     printf("%u", recorded.answer);
     if (recorded.answer == HEIDEZIRKEL_TAKEN) {

@@ -1,4 +1,4 @@
-/* The commands `read` and `write`. */
+/* The commands `read`, `write`, `gread` and `gwrite`. */
 #include "commands.h"
 #include <stdio.h>
 #include <string.h>
@@ -107,12 +107,12 @@ static void print_message(const struct heidezirkel_message *message, const struc
         print_field(*field, message, octets->octets);
 }
 
-bool read_command(struct line *line) {
+bool read_command(struct line *line, enum call call) {
     struct octets received = octets_word(line);
     if (!whole(line))
         return false;
     struct lent octets = lend_octets(received.at, received.count);
-    struct heidezirkel_reading reading = heidezirkel_read_message(octets.octets, octets.length);
+    struct heidezirkel_reading reading = (call == GROUP ? heidezirkel_group_read_message : heidezirkel_read_message)(octets.octets, octets.length);
     bool unreadable = reading.answer == HEIDEZIRKEL_UNREADABLE;
     promise(kept(&octets, 0), "read: the octets changed");
     promise(unreadable == (reading.fault != 0), "read: a fault stands exactly with answer 13");
@@ -173,10 +173,10 @@ static struct heidezirkel_message message_words(struct line *line, const uint8_t
     return message;
 }
 
-static void write_message(struct heidezirkel_message message, const struct lent *source, size_t room) {
+static void write_message(struct heidezirkel_message message, const struct lent *source, size_t room, enum call call) {
     struct lent buffer = lend(room);
-    struct heidezirkel_written written =
-        heidezirkel_write_message(message, source->octets, source->length, buffer.octets, buffer.length);
+    struct heidezirkel_written written = (call == GROUP ? heidezirkel_group_write_message : heidezirkel_write_message)(message, source->octets,
+        source->length, buffer.octets, buffer.length);
     bool takes = written.answer == HEIDEZIRKEL_TAKEN;
     promise(takes || written.length == 0, "write: refused, and a length");
     promise(written.length <= room, "write: longer than its buffer");
@@ -190,14 +190,14 @@ static void write_message(struct heidezirkel_message message, const struct lent 
     give_back(&buffer);
 }
 
-bool write_command(struct line *line) {
+bool write_command(struct line *line, enum call call) {
     const uint8_t *begin = line->room;
     size_t room = number_word(line, UINT32_MAX);
     struct heidezirkel_message message = message_words(line, begin);
     if (!whole(line))
         return false;
     struct lent source = lend_octets(begin, (size_t)(line->room - begin));
-    write_message(message, &source, room);
+    write_message(message, &source, room, call);
     promise(kept(&source, 0), "write: the source changed");
     give_back(&source);
     return true;

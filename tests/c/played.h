@@ -38,4 +38,6 @@ bool refuses(struct heidezirkel_judgement judged, uint32_t answer, size_t entry)
 
 /* invitations.c */
 void check_invitations(void);
+/* groups.c */
+void check_groups(void);
 #endif

@@ -1,5 +1,5 @@
 /* promises: what the line protocol can't show of the C library: octets that are no context, the octets and the faults of a settings file, a call that is recorded
- * and judged; and what invitations.c has.
+ * and judged; and what invitations.c and groups.c have.
  * The expected values are worked out by hand from documents 01 and 02. Status 1, and a line on standard error for each, where one is not as promised. */
 #include "played.h"
 #include <stdio.h>
@@ -230,7 +230,8 @@ static void check_judged(const struct recording *now) {
     now->log.octets[JOIN_ACTIONS] ^= 8;
     EXPECT(refuses(heidezirkel_judge(settings, now->log.octets, now->used), HEIDEZIRKEL_UNEXPLAINED, 2));
     now->log.octets[JOIN_ACTIONS] ^= 8;
-    /* No termination is rejected in it, and no invitation runs out: versions 1 and 2 explain it too, and tell of no invitation timer. There is no other. */
+    /* No termination is rejected in it, and no invitation runs out: versions 1 and 2 explain it too, and tell of no invitation timer. A group call has no U6. There is
+     * no other version. */
     for (unsigned version = 0; version < 256; version++) {
         now->log.octets[0] = (uint8_t)version;
         struct heidezirkel_judgement judged = heidezirkel_judge(settings, now->log.octets, now->used);
@@ -238,6 +239,8 @@ static void check_judged(const struct recording *now) {
             EXPECT(accepts(judged, 6, 20000, 30000, 0, 0));
         else if (version == 3)
             EXPECT(accepts(judged, 6, 20000, 30000, 2500, 600000));
+        else if (version == 16)
+            EXPECT(refuses(judged, HEIDEZIRKEL_UNEXPLAINED, 3));
         else
             EXPECT(refuses(judged, HEIDEZIRKEL_UNREADABLE_LOG, 0));
     }
@@ -292,6 +295,7 @@ int main(void) {
     check_looked_at();
     check_judged(&recording);
     check_invitations();
+    check_groups();
     check_settings();
     check_numbers();
     give_back(&recording.log);

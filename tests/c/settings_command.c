@@ -27,7 +27,8 @@ static void print_settings(struct heidezirkel_settings read, const uint8_t *sett
     promise(four_octets(settings + 17) == read.invitation_ms, "settings: octets 17 to 20 are not the invitation timer");
 }
 
-bool settings_command(struct line *line) {
+bool settings_command(struct line *line, enum call call) {
+    (void)call;
     struct octets bytes = octets_word(line);
     if (!whole(line))
         return false;

@@ -6,10 +6,13 @@
 
 static const struct command {
     const char *name;
-    bool (*answer)(struct line *line);
+    bool (*answer)(struct line *line, enum call call);
+    enum call call;
 } commands[] = {
-    {"read", read_command},         {"write", write_command}, {"step", step_command},
-    {"settings", settings_command}, {"judge", judge_command}, {"record", record_command},
+    {"read", read_command, BROADCAST},   {"write", write_command, BROADCAST},       {"step", step_command, BROADCAST},
+    {"record", record_command, BROADCAST}, {"settings", settings_command, BROADCAST}, {"judge", judge_command, BROADCAST},
+    {"gread", read_command, GROUP},      {"gwrite", write_command, GROUP},          {"gstep", step_command, GROUP},
+    {"grecord", record_command, GROUP},
 };
 
 static bool answer(const char *text, size_t length, uint8_t *room) {
@@ -17,7 +20,7 @@ static bool answer(const char *text, size_t length, uint8_t *room) {
     struct octets name = word(&line);
     for (size_t i = 0; i < sizeof commands / sizeof commands[0]; i++)
         if (is_word(name, commands[i].name))
-            return commands[i].answer(&line);
+            return commands[i].answer(&line, commands[i].call);
     return false;
 }
 

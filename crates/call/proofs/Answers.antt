@@ -1,4 +1,5 @@
--- What an answer says, of a step by any sound rows: it is 0 to 3; any but 0 keeps the context and has no actions, and any but 0 and 2 sends nothing.
+-- What an answer says, of a step by any sound rows: it is 0 to 3; any but 0 keeps the context, has no actions and sends nothing that was pending, and any but 0 and 2
+-- sends nothing.
 -- Actions are at most the rows' sum. Answer 1 has a reason of 1 to 6 beside it, and every other answer 0.
 use Prim.Native.Nat.{ℕ, _≤_}
 use mathlib.Core.Path.{_≡_, refl}
@@ -12,6 +13,7 @@ use Rattle.codes.specs.Attributes.{parametersOf}
 use Rattle.context.specs.declared.Context.{Context}
 use Rattle.fitness.specs.Fitness.{Fitness, consistentBy}
 use Rattle.version.specs.declared.Table.{Table}
+use Rattle.version.specs.Version.{greatestActions}
 use Rattle.fitness.specs.Tables.{fitnessOf}
 use Rattle.transitions.specs.declared.Send.{Send}
 use Rattle.transitions.specs.declared.Send.the-variants.{Nothing}
@@ -28,6 +30,7 @@ use Rattle.call.specs.declared.Seen.{Seen}
 use Rattle.call.specs.declared.Settled.{Settled}
 use Rattle.call.specs.Events.{seenOf}
 use Rattle.call.specs.Step.{took, ignored, noStep, reportedWith, statusTold, parametersSet, carriedOut, stepBy}
+use Rattle.call.specs.Talk.{unsent}
 use Rattle.call.specs.Due.{settledBy, settled}
 use Rattle.call.proofs.Reasons.{numbered}
 
@@ -36,6 +39,7 @@ pub record Right (most : ℕ) (x : Context) (r : Settled) : Type 0 where
   pub kept : (r .answer ≡ 0 → ⊥) → r .context ≡ x
   pub still : (r .answer ≡ 0 → ⊥) → r .actions ≡ 0
   pub silent : (r .answer ≡ 0 → ⊥) → (r .answer ≡ 2 → ⊥) → r .sends ≡ Nothing
+  pub unsent : (r .answer ≡ 0 → ⊥) → r .sent ≡ unsent x
   pub few : r .actions ≤ most
   pub told : r .answer ≡ 1 → (1 ≤ r .reason) × (r .reason ≤ 6)
   pub untold : (r .answer ≡ 1 → ⊥) → r .reason ≡ 0
@@ -47,6 +51,7 @@ module _ (fitness : Fitness) (most : ℕ) (x : Context) where
     kept = λ n. elim (n refl) [ ];
     still = λ n. elim (n refl) [ ];
     silent = λ n m. elim (n refl) [ ];
+    unsent = λ n. elim (n refl) [ ];
     few = few;
     told = λ e. let z : ⊥ = omega (arith, e) in absurd z;
     untold = λ n. refl;
@@ -59,6 +64,7 @@ module _ (fitness : Fitness) (most : ℕ) (x : Context) where
     kept = λ n. refl;
     still = λ n. refl;
     silent = λ n m. refl;
+    unsent = λ n. refl;
     few = omega arith;
     told = λ e. numbered reason;
     untold = λ n. elim (n refl) [ ];
@@ -71,6 +77,7 @@ module _ (fitness : Fitness) (most : ℕ) (x : Context) where
     kept = λ n. refl;
     still = λ n. refl;
     silent = λ n m. refl;
+    unsent = λ n. refl;
     few = omega arith;
     told = λ e. let z : ⊥ = omega (arith, e) in absurd z;
     untold = λ n. refl;
@@ -85,6 +92,7 @@ module _ (fitness : Fitness) (most : ℕ) (x : Context) where
         kept = λ n. refl;
         still = λ n. refl;
         silent = λ n m. elim (m refl) [ ];
+        unsent = λ n. refl;
         few = omega arith;
         told = λ e. let z : ⊥ = omega (arith, e) in absurd z;
         untold = λ n. refl;
@@ -113,5 +121,5 @@ module _ (fitness : Fitness) (most : ℕ) (x : Context) where
   settled-by table sound Refused = no-step-right
 
 -- By a step table.
-pub settled-right : (table : Table) (x : Context) (due : Due) → Right 63 x (settled table x due)
-settled-right table x = settled-by (fitnessOf table) 63 x (stepTable table) (rows-sound table)
+pub settled-right : (table : Table) (x : Context) (due : Due) → Right (greatestActions table) x (settled table x due)
+settled-right table x = settled-by (fitnessOf table) (greatestActions table) x (stepTable table) (rows-sound table)

@@ -1,4 +1,5 @@
 pub mod Reasons
+pub mod Pending
 pub mod Kept
 pub mod Return
 pub mod Invitation

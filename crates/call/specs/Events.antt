@@ -30,23 +30,24 @@ bare number = record { number = number; code = 0; value = 0; reference = noRefer
 abbrev pub carrying : ℕ → ℕ → Reference → Seen
 carrying number value reference = record { number = number; code = 0; value = value; reference = reference; attributes = 0 }
 
--- A message received, by its type.
-abbrev pub heard : ℕ → Reference → ℕ → Seen
-heard code reference attributes = record { number = 18; code = code; value = 0; reference = reference; attributes = attributes }
+-- A message received, by its type, with its transaction value.
+abbrev pub heard : ℕ → ℕ → Reference → ℕ → Seen
+heard code value reference attributes = record { number = 18; code = code; value = value; reference = reference; attributes = attributes }
 
--- Of the messages that have a row or a sentence, CONNECT carries a reference and SET PARAMETER state attributes.
-unfoldable pub seenMessage : Message → Seen
-seenMessage (Message.Connect reference originator) = heard CONNECT reference 0
-seenMessage (Message.GetStatus identity) = heard GET-STATUS noReference 0
-seenMessage (Message.ImmediateSetup key classmark identity reference) = heard IMMEDIATE-SETUP noReference 0
-seenMessage (Message.SetParameter attributes) = heard SET-PARAMETER noReference attributes
-seenMessage (Message.Setup reference) = heard SETUP noReference 0
-seenMessage (Message.Status cause state attributes) = heard STATUS noReference 0
-seenMessage (Message.Termination cause) = heard TERMINATION noReference 0
-seenMessage (Message.TerminationReject cause) = heard TERMINATION-REJECT noReference 0
-seenMessage (Message.TerminationRequest reference) = heard TERMINATION-REQUEST noReference 0
+-- Of the messages that have a row or a sentence, CONNECT carries a reference and an originator, which is the bit of ORIG in state attributes, and SET PARAMETER state
+-- attributes.
+unfoldable pub seenMessage : ℕ → Message → Seen
+seenMessage value (Message.Connect reference originator) = heard CONNECT value reference originator
+seenMessage value (Message.GetStatus identity) = heard GET-STATUS value noReference 0
+seenMessage value (Message.ImmediateSetup key classmark identity reference) = heard IMMEDIATE-SETUP value noReference 0
+seenMessage value (Message.SetParameter attributes) = heard SET-PARAMETER value noReference attributes
+seenMessage value (Message.Setup reference) = heard SETUP value noReference 0
+seenMessage value (Message.Status cause state attributes) = heard STATUS value noReference 0
+seenMessage value (Message.Termination cause) = heard TERMINATION value noReference 0
+seenMessage value (Message.TerminationReject cause) = heard TERMINATION-REJECT value noReference 0
+seenMessage value (Message.TerminationRequest reference) = heard TERMINATION-REQUEST value noReference 0
 
--- The events: eighteen of document 01, and the expiry of the invitation timer, "event 19".
+-- The events: eighteen of document 01; the expiry of the invitation timer, "event 19"; and "new events numbered from 32", those of a group call.
 unfoldable pub seenOf : Event → Seen
 seenOf (Event.SetUp value reference) = carrying 1 value reference  -- set-up request
 seenOf (Event.ImmediateSetUp value reference) = carrying 2 value reference  -- immediate set-up request
@@ -65,5 +66,10 @@ seenOf Event.MmEstExpired = bare 14  -- expiry of T_MM-est
 seenOf Event.TermExpired = bare 15  -- expiry of T_term
 seenOf Event.ConnReqExpired = bare 16  -- expiry of T_conn req
 seenOf Event.NoChannelExpired = bare 17  -- expiry of T_no channel
-seenOf (Event.Received mode message) = seenMessage message  -- message received
+seenOf (Event.Received mode value message) = seenMessage value message  -- message received
 seenOf Event.PresExpired = bare 19  -- expiry of T_pres
+seenOf Event.ReceiveModeRequested = bare 32  -- request receive mode: stop talking
+seenOf Event.TalkRequested = bare 33  -- request talk: the uplink
+seenOf Event.TransmitModeEntered = bare 34  -- group transmit mode entered
+seenOf Event.DedicatedModeEntered = bare 35  -- dedicated mode entered
+seenOf Event.TerminationDeleted = bare 36  -- delete the pending termination request

@@ -1,5 +1,6 @@
 pub mod Events
 pub mod Reasons
+pub mod Talk
 pub mod Step
 pub mod Due
 pub mod Sets

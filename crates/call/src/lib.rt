@@ -1,15 +1,17 @@
 // What happens in a call, and what a step of it comes to: events, what is due, why a message is ignored, and an event taken apart. The step itself is in
 // call_step.
 ghost use mathlib.Core.Path.{_≡_};
-ghost use Rattle.call.specs.Events.{bare, carrying, heard, seenMessage, seenOf};
+ghost use Rattle.call.specs.Events.{noReference, bare, carrying, heard, seenMessage, seenOf};
 ghost use Rattle.call.specs.Reasons.{reasonNumber};
+use codes::attributes::Parameters;
 use codes::message_type;
+use codes::state::State;
 use context::Context;
 use message::Message;
 use octets::Reference;
 use transitions::Send;
 
-// The events of document 01, in the order of their numbers 1 to 18, and 19, which the third step table has.
+// The events of document 01, in the order of their numbers 1 to 18; 19, which the third step table has; and 32 to 36, which a group call has.
 pub enum Event {
     SetUp(u8, Reference),
     ImmediateSetUp(u8, Reference),
@@ -28,12 +30,19 @@ pub enum Event {
     TermExpired,
     ConnReqExpired,
     NoChannelExpired,
-    // Its mode, 0 acknowledged or 1 not, and the message.
-    Received(u8, Message),
+    // Its mode, 0 acknowledged or 1 not, its transaction value, and the message.
+    Received(u8, u8, Message),
     PresExpired,
+    // 32 to 36, a group call's.
+    ReceiveModeRequested,
+    TalkRequested,
+    TransmitModeEntered,
+    DedicatedModeEntered,
+    TerminationDeleted,
 }
 
-// An event taken apart: its number, the type of its message, and what it carries: a transaction value, a reference, state attributes. What it does not carry is 0.
+// An event taken apart: its number, the type of its message, and what it carries: a transaction value, a reference, state attributes (of CONNECT its originator, which
+// is their bit of ORIG). What it does not carry is 0.
 pub struct Seen {
     pub number: u8,
     pub code: u8,
@@ -60,6 +69,15 @@ pub struct Settled {
     pub context: Context,
     pub actions: u8,
     pub sends: Send,
+    pub sent: Sent,
+}
+
+// What was pending in a group call and is sent now, behind what the step itself sends: a STATUS that tells this state and these parameters, then a TERMINATION REQUEST.
+pub struct Sent {
+    pub status: bool,
+    pub request: bool,
+    pub state: State,
+    pub parameters: Parameters,
 }
 
 // What is due where something happens: the step of an event, or what befalls a message or a number that comes to no step.
@@ -119,63 +137,61 @@ impl Seen {
     }
 
     // A message of this type.
-    fn heard(code: u8, reference: Reference, attributes: u8) -> Seen
-        ensures { λ r. ⌜ r ≡ heard code reference attributes ⌝ }
+    fn heard(code: u8, value: u8, reference: Reference, attributes: u8) -> Seen
+        ensures { λ r. ⌜ r ≡ heard code value reference attributes ⌝ }
     {
         Seen {
             number: 18,
             code,
-            value: 0,
+            value,
             reference,
             attributes,
         }
     }
+
+    // A message of which no row asks more than its type.
+    fn silent(code: u8, value: u8) -> Seen
+        ensures { λ r. ⌜ r ≡ heard code value noReference 0 ⌝ }
+    {
+        Seen::heard(code, value, Seen::NO_REFERENCE, 0)
+    }
 }
 
-fn seen_message(message: Message) -> Seen
-    ensures { λ r. ⌜ r ≡ seenMessage message ⌝ }
+fn seen_message(value: u8, message: Message) -> Seen
+    ensures { λ r. ⌜ r ≡ seenMessage value message ⌝ }
 {
     match message {
         Message::Connect {
             reference,
-            originator: _,
-        } => Seen::heard(message_type::CONNECT, reference, 0),
-        Message::GetStatus { identity: _ } => Seen::heard(
-            message_type::GET_STATUS,
-            Seen::NO_REFERENCE,
-            0,
-        ),
+            originator,
+        } => Seen::heard(message_type::CONNECT, value, reference, originator),
+        Message::GetStatus { identity: _ } => Seen::silent(message_type::GET_STATUS, value),
         Message::ImmediateSetup {
             key: _,
             classmark: _,
             identity: _,
             reference: _,
-        } => Seen::heard(message_type::IMMEDIATE_SETUP, Seen::NO_REFERENCE, 0),
+        } => Seen::silent(message_type::IMMEDIATE_SETUP, value),
         Message::SetParameter { attributes } => Seen::heard(
             message_type::SET_PARAMETER,
+            value,
             Seen::NO_REFERENCE,
             attributes,
         ),
-        Message::Setup { reference: _ } => Seen::heard(message_type::SETUP, Seen::NO_REFERENCE, 0),
+        Message::Setup { reference: _ } => Seen::silent(message_type::SETUP, value),
         Message::Status {
             cause: _,
             state: _,
             attributes: _,
-        } => Seen::heard(message_type::STATUS, Seen::NO_REFERENCE, 0),
-        Message::Termination { cause: _ } => Seen::heard(
-            message_type::TERMINATION,
-            Seen::NO_REFERENCE,
-            0,
-        ),
-        Message::TerminationReject { cause: _ } => Seen::heard(
+        } => Seen::silent(message_type::STATUS, value),
+        Message::Termination { cause: _ } => Seen::silent(message_type::TERMINATION, value),
+        Message::TerminationReject { cause: _ } => Seen::silent(
             message_type::TERMINATION_REJECT,
-            Seen::NO_REFERENCE,
-            0,
+            value,
         ),
-        Message::TerminationRequest { reference: _ } => Seen::heard(
+        Message::TerminationRequest { reference: _ } => Seen::silent(
             message_type::TERMINATION_REQUEST,
-            Seen::NO_REFERENCE,
-            0,
+            value,
         ),
     }
 }
@@ -202,7 +218,12 @@ pub fn seen_event(event: Event) -> Seen
         Event::TermExpired => Seen::bare(15),
         Event::ConnReqExpired => Seen::bare(16),
         Event::NoChannelExpired => Seen::bare(17),
-        Event::Received(_, message) => seen_message(message),
+        Event::Received(_, value, message) => seen_message(value, message),
         Event::PresExpired => Seen::bare(19),
+        Event::ReceiveModeRequested => Seen::bare(32),
+        Event::TalkRequested => Seen::bare(33),
+        Event::TransmitModeEntered => Seen::bare(34),
+        Event::DedicatedModeEntered => Seen::bare(35),
+        Event::TerminationDeleted => Seen::bare(36),
     }
 }

@@ -1,19 +1,23 @@
 // The step of a call, by value: what the step table's row for an event brings about, and what else befalls what happens.
 ghost use mathlib.Core.Path.{_≡_};
 ghost use Rattle.fitness.specs.Tables.{fitnessOf};
-ghost use Rattle.transitions.specs.Table.{rememberedAfter};
+ghost use Rattle.transitions.specs.Table.{timersAfter, rememberedAfter};
+ghost use Rattle.call.specs.Talk.{noted, adopted, originating, awaitingAfter, unsent};
 ghost use Rattle.call.specs.Due.{settled};
-ghost use Rattle.call.specs.Step.{parametersAfter, valueAfter, referenceAfter, afterwards, noStep, ignored, reportedWith, statusTold, parametersSet, carriedOut, stepValue};
+ghost use Rattle.call.specs.Step.{parametersAfter, valueAfter, referenceAfter, afterwards, took, noStep, ignored, reportedWith, statusTold, withParameters, parametersSet, carriedOut, stepValue};
 use call::Due;
 use call::Event;
 use call::Reason;
 use call::Seen;
+use call::Sent;
 use call::Settled;
 use codes::attributes::Parameters;
 use codes::state::State;
 use context::Context;
 use context::Remembered;
+use context::Talk;
 use octets::Reference;
+use timer::Timers;
 use transitions::Decision;
 use transitions::Memory;
 use transitions::Send;
@@ -22,16 +26,37 @@ use transitions::Taken;
 use version::Table;
 
 // Entering a state sets its row; a step that stays in its state keeps the parameters.
-fn parameters_after(context: Context, next: State) -> Parameters
-    ensures { λ r. ⌜ r ≡ parametersAfter context next ⌝ }
+fn parameters_after(from: State, before: Parameters, next: State) -> Parameters
+    ensures { λ r. ⌜ r ≡ parametersAfter from before next ⌝ }
 {
-    let state = context.state;
-    let from = context::state_number(state);
-    let to = context::state_number(next);
-    if from == to {
-        return context.parameters;
+    let here = context::state_number(from);
+    let there = context::state_number(next);
+    if here == there {
+        return before;
     }
-    context::entering(next, context.parameters)
+    context::entering(next, before)
+}
+
+// The parameters after a row, which may store who the originator is.
+fn entered(context: Context, taken: Taken, attributes: u8) -> Parameters
+    ensures { λ r. ⌜ r ≡ parametersAfter (context .state) (originating (taken .stores) attributes (context .parameters)) (taken .next) ⌝ }
+{
+    let from = context.state;
+    let before = context.parameters;
+    let stores = taken.stores;
+    let next = taken.next;
+    let named = talk::originating(stores, attributes, before);
+    parameters_after(from, named, next)
+}
+
+// The timers after a row: one is stopped, one is set.
+fn timers_after(taken: Taken, before: Timers) -> Timers
+    ensures { λ r. ⌜ r ≡ timersAfter taken before ⌝ }
+{
+    let stops = taken.stops;
+    let sets = taken.sets;
+    let stopped = timer::with_timer(stops, false, before);
+    timer::with_timer(sets, true, stopped)
 }
 
 // The transaction value after a row: that of the event where the row stores it.
@@ -42,6 +67,7 @@ fn value_after(stores: Stores, carried: u8, kept: u8) -> u8
         Stores::Nothing => kept,
         Stores::ValueAndReference => carried,
         Stores::ItsReference => kept,
+        Stores::ItsReferenceAndOriginator => kept,
     }
 }
 
@@ -53,6 +79,7 @@ fn reference_after(stores: Stores, carried: Reference, kept: Reference) -> Refer
         Stores::Nothing => kept,
         Stores::ValueAndReference => carried,
         Stores::ItsReference => carried,
+        Stores::ItsReferenceAndOriginator => carried,
     }
 }
 
@@ -67,6 +94,18 @@ fn remembered_after(memory: Memory, here: State, kept: Remembered) -> Remembered
     }
 }
 
+// What a group call keeps after a row, where these are the parameters.
+fn talk_after(context: Context, taken: Taken, parameters: Parameters) -> Talk
+    ensures { λ r. ⌜ r ≡ awaitingAfter (context .state) (taken .next) parameters (noted (taken .note) (context .talk)) ⌝ }
+{
+    let from = context.state;
+    let before = context.talk;
+    let next = taken.next;
+    let note = taken.note;
+    let told = talk::noted(note, before);
+    talk::awaiting_after(from, next, parameters, told)
+}
+
 // The context after a row of the table: entering U0 clears.
 fn afterwards(context: Context, taken: Taken, seen: Seen) -> Context
     ensures { λ r. ⌜ r ≡ afterwards context taken seen ⌝ }
@@ -76,21 +115,19 @@ fn afterwards(context: Context, taken: Taken, seen: Seen) -> Context
     if number == 0 {
         return Context::cleared();
     }
+    let stores = taken.stores;
+    let memory = taken.memory;
+    let here = context.state;
     let before = context.timers;
     let carried = seen.reference;
     let kept = context.reference;
-    let stops = taken.stops;
-    let sets = taken.sets;
-    let stores = taken.stores;
-    let parameters = parameters_after(context, next);
-    let stopped = timer::with_timer(stops, false, before);
-    let timers = timer::with_timer(sets, true, stopped);
+    let minded = context.remembered;
+    let parameters = entered(context, taken, seen.attributes);
+    let timers = timers_after(taken, before);
     let value = value_after(stores, seen.value, context.value);
     let reference = reference_after(stores, carried, kept);
-    let memory = taken.memory;
-    let here = context.state;
-    let minded = context.remembered;
     let remembered = remembered_after(memory, here, minded);
+    let talk = talk_after(context, taken, parameters);
     Context {
         state: next,
         parameters,
@@ -98,6 +135,37 @@ fn afterwards(context: Context, taken: Taken, seen: Seen) -> Context
         value,
         reference,
         remembered,
+        talk,
+    }
+}
+
+// What is taken. What was pending is sent as soon as it can be.
+fn took(context: Context, actions: u8, sends: Send) -> Settled
+    ensures { λ r. ⌜ r ≡ took context actions sends ⌝ }
+{
+    let sent = talk::sent_in(context);
+    let after = talk::flushed(context);
+    Settled {
+        answer: 0,
+        reason: 0,
+        context: after,
+        actions,
+        sends,
+        sent,
+    }
+}
+
+// Nothing that was pending is sent.
+fn unsent(context: Context) -> Sent
+    ensures { λ r. ⌜ r ≡ unsent context ⌝ }
+{
+    let state = context.state;
+    let parameters = context.parameters;
+    Sent {
+        status: false,
+        request: false,
+        state,
+        parameters,
     }
 }
 
@@ -105,12 +173,14 @@ fn afterwards(context: Context, taken: Taken, seen: Seen) -> Context
 fn refuse(context: Context) -> Settled
     ensures { λ r. ⌜ r ≡ noStep context ⌝ }
 {
+    let sent = unsent(context);
     Settled {
         answer: 3,
         reason: 0,
         context,
         actions: 0,
         sends: Send::Nothing,
+        sent,
     }
 }
 
@@ -119,12 +189,14 @@ fn ignore(context: Context, reason: Reason) -> Settled
     ensures { λ r. ⌜ r ≡ ignored reason context ⌝ }
 {
     let number = call::reason_number(reason);
+    let sent = unsent(context);
     Settled {
         answer: 1,
         reason: number,
         context,
         actions: 0,
         sends: Send::Nothing,
+        sent,
     }
 }
 
@@ -134,12 +206,14 @@ fn report(context: Context, cause: u8) -> Settled
 {
     let parameters = context.parameters;
     if parameters.comm {
+        let sent = unsent(context);
         return Settled {
             answer: 2,
             reason: 0,
             context,
             actions: 0,
             sends: Send::ErrorStatus(cause),
+            sent,
         };
     }
     ignore(context, Reason::CommFalse)
@@ -151,44 +225,52 @@ fn tell_status(context: Context) -> Settled
 {
     let told = context.parameters;
     if told.comm {
-        return Settled {
-            answer: 0,
-            reason: 0,
-            context,
-            actions: 0,
-            sends: Send::Status(30),
-        };
+        return took(context, 0, Send::Status(30));
     }
     ignore(context, Reason::CommFalse)
 }
 
-// SET PARAMETER: consistent values are set, inconsistent ones are reported with the cause that 6.5.1.2 names.
-fn set_parameters(table: Table, context: Context, attributes: u8) -> Settled
-    ensures { λ r. ⌜ r ≡ parametersSet (fitnessOf table) attributes context ⌝ }
+// The context with other parameters.
+fn with_parameters(parameters: Parameters, context: Context) -> Context
+    ensures { λ r. ⌜ r ≡ withParameters parameters context ⌝ }
 {
     let state = context.state;
     let timers = context.timers;
     let reference = context.reference;
     let remembered = context.remembered;
+    let talk = context.talk;
+    Context {
+        state,
+        parameters,
+        timers,
+        value: context.value,
+        reference,
+        remembered,
+        talk,
+    }
+}
+
+// SET PARAMETER: consistent values are set, in the context as it is where the message is taken; inconsistent ones are reported with the cause that 6.5.1.2 names.
+fn set_parameters(table: Table, attributes: u8, context: Context, taking: Context) -> Settled
+    ensures { λ r. ⌜ r ≡ parametersSet (fitnessOf table) attributes context taking ⌝ }
+{
+    let state = context.state;
     let parameters = codes::attributes::parameters_of(attributes);
     if fitness::is_consistent(table, state, parameters) {
-        let set = Context {
-            state,
-            parameters,
-            timers,
-            value: context.value,
-            reference,
-            remembered,
-        };
-        return Settled {
-            answer: 0,
-            reason: 0,
-            context: set,
-            actions: 0,
-            sends: Send::Nothing,
-        };
+        let set = with_parameters(parameters, taking);
+        return took(set, 0, Send::Nothing);
     }
     report(context, 98)
+}
+
+// A row is taken.
+fn take_row(context: Context, taken: Taken, seen: Seen) -> Settled
+    ensures { λ r. ⌜ r ≡ took (afterwards (adopted context seen) taken seen) (taken .actions) (taken .sends) ⌝ }
+{
+    let sends = taken.sends;
+    let taking = talk::adopted(context, seen);
+    let after = afterwards(taking, taken, seen);
+    took(after, taken.actions, sends)
 }
 
 // What the table's decision brings about.
@@ -196,22 +278,15 @@ fn carry_out(table: Table, context: Context, decision: Decision, seen: Seen) -> 
     ensures { λ r. ⌜ r ≡ carriedOut (fitnessOf table) context decision seen ⌝ }
 {
     match decision {
-        Decision::Take(taken) => {
-            let after = afterwards(context, taken, seen);
-            let sends = taken.sends;
-            Settled {
-                answer: 0,
-                reason: 0,
-                context: after,
-                actions: taken.actions,
-                sends,
-            }
-        }
+        Decision::Take(taken) => take_row(context, taken, seen),
         Decision::NoStep => refuse(context),
         Decision::Ignore => ignore(context, Reason::NoCall),
         Decision::Report(cause) => report(context, cause),
         Decision::TellStatus => tell_status(context),
-        Decision::SetParameters => set_parameters(table, context, seen.attributes),
+        Decision::SetParameters => {
+            let taking = talk::adopted(context, seen);
+            set_parameters(table, seen.attributes, context, taking)
+        }
     }
 }
 

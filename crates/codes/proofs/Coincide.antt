@@ -2,14 +2,19 @@
 use Prim.Native.Nat.{ℕ}
 use mathlib.Core.Path.{_≡_}
 use Rattle.octets.proofs.Coincide.{coincide}
+use Rattle.codes.specs.declared.protocol.Protocol.{Protocol}
 use Rattle.codes.specs.declared.state.State.{State}
 use Rattle.codes.specs.declared.state.CallState.{CallState}
 use Rattle.codes.specs.declared.attributes.Parameters.{Parameters}
+use Rattle.codes.specs.Protocol.{discriminator}
 use Rattle.codes.specs.CallStates.{callStateOf, callStateCode}
 use Rattle.codes.specs.Attributes.{parametersOf, attributesOf}
 
-pub call-state-of-coincides : (code : ℕ) (a b : CallState) → a ≡ callStateOf code → b ≡ callStateOf code → a ≡ b
-call-state-of-coincides code a b = coincide (callStateOf code) a b
+pub discriminator-coincides : (protocol : Protocol) (a b : ℕ) → a ≡ discriminator protocol → b ≡ discriminator protocol → a ≡ b
+discriminator-coincides protocol a b = coincide (discriminator protocol) a b
+
+pub call-state-of-coincides : (protocol : Protocol) (code : ℕ) (a b : CallState) → a ≡ callStateOf protocol code → b ≡ callStateOf protocol code → a ≡ b
+call-state-of-coincides protocol code a b = coincide (callStateOf protocol code) a b
 
 pub call-state-code-coincides : (state : State) (a b : ℕ) → a ≡ callStateCode state → b ≡ callStateCode state → a ≡ b
 call-state-code-coincides state a b = coincide (callStateCode state) a b

@@ -1,3 +1,4 @@
 pub mod Back
 pub mod Bits
 pub mod Coincide
+pub mod Protocols

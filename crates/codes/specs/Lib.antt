@@ -1,3 +1,4 @@
+pub mod Protocol
 pub mod MessageTypes
 pub mod CallStates
 pub mod Attributes

@@ -27,7 +27,3 @@ GET-STATUS = 0b111001
 
 abbrev pub SET-PARAMETER : ℕ
 SET-PARAMETER = 0b111010
-
--- 9.1 and document 01, "Received messages", rule 1: the protocol discriminator of broadcast call control.
-abbrev pub discriminator : ℕ
-discriminator = 1

@@ -8,7 +8,9 @@ use Rattle.codes.specs.declared.attributes.Parameters.{Parameters}
 use Rattle.context.specs.declared.Remembered.{Remembered}
 use Rattle.context.specs.Remembered.{rememberedNumber, remembering, returning}
 use Rattle.context.specs.declared.Context.{Context}
-use Rattle.context.specs.States.{numberOf, flagOf}
+use Rattle.context.specs.States.{numberOf}
+use Rattle.context.specs.declared.Chooser.{Chooser}
+use Rattle.context.specs.Talk.{flagOf, chooserNumber}
 use Rattle.context.specs.Context.{startRow, entering, cleared}
 
 pub cleared-coincides : (a b : Context) → a ≡ cleared → b ≡ cleared → a ≡ b
@@ -34,3 +36,6 @@ remembering-coincides state a b = coincide (remembering state) a b
 
 pub returning-coincides : (remembered : Remembered) (here : State) (a b : State) → a ≡ returning remembered here → b ≡ returning remembered here → a ≡ b
 returning-coincides remembered here a b = coincide (returning remembered here) a b
+
+pub chooser-number-coincides : (chooser : Chooser) (a b : ℕ) → a ≡ chooserNumber chooser → b ≡ chooserNumber chooser → a ≡ b
+chooser-number-coincides chooser a b = coincide (chooserNumber chooser) a b

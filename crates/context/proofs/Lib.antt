@@ -1,3 +1,4 @@
 pub mod States
 pub mod Whole
+pub mod Chosen
 pub mod Coincide

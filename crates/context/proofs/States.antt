@@ -7,19 +7,19 @@ use native.Mathlib.Omega.{arith}
 use lib.ListN.{getD}
 use borrow.Author.Tests.{eqb-true}
 use Rattle.codes.specs.declared.state.State.{State}
-use Rattle.codes.specs.declared.state.State.the-variants.{U0, U0p, U1, U2, U3, U4, U5, U6}
+use Rattle.codes.specs.declared.state.State.the-variants.{U0, U0p, U1, U2, U3, U4, U5, U6, U2sl, U2wr, U2r, U2ws, U2sr, U2nc}
 use Rattle.context.specs.States.{numberOf, same}
 
--- Eight states.
-pub state-below : (s : State) → numberOf s < 8
-state-below = elim [ U0 ↦ omega arith | U0p ↦ omega arith | U1 ↦ omega arith | U2 ↦ omega arith | U3 ↦ omega arith | U4 ↦ omega arith | U5 ↦ omega arith | U6 ↦ omega arith ]
+-- Fourteen states.
+pub state-below : (s : State) → numberOf s < 14
+state-below = elim [ U0 ↦ omega arith | U0p ↦ omega arith | U1 ↦ omega arith | U2 ↦ omega arith | U3 ↦ omega arith | U4 ↦ omega arith | U5 ↦ omega arith | U6 ↦ omega arith | U2sl ↦ omega arith | U2wr ↦ omega arith | U2r ↦ omega arith | U2ws ↦ omega arith | U2sr ↦ omega arith | U2nc ↦ omega arith ]
 
 -- The state of a number.
 abbrev stateAt : ℕ → State
-stateAt n = getD (U0 ∷ U0p ∷ U1 ∷ U2 ∷ U3 ∷ U4 ∷ U5 ∷ U6 ∷ []) n U0
+stateAt n = getD (U0 ∷ U0p ∷ U1 ∷ U2 ∷ U3 ∷ U4 ∷ U5 ∷ U6 ∷ U2sl ∷ U2wr ∷ U2r ∷ U2ws ∷ U2sr ∷ U2nc ∷ []) n U0
 
 at-number : (s : State) → stateAt (numberOf s) ≡ s
-at-number = elim [ U0 ↦ refl | U0p ↦ refl | U1 ↦ refl | U2 ↦ refl | U3 ↦ refl | U4 ↦ refl | U5 ↦ refl | U6 ↦ refl ]
+at-number = elim [ U0 ↦ refl | U0p ↦ refl | U1 ↦ refl | U2 ↦ refl | U3 ↦ refl | U4 ↦ refl | U5 ↦ refl | U6 ↦ refl | U2sl ↦ refl | U2wr ↦ refl | U2r ↦ refl | U2ws ↦ refl | U2sr ↦ refl | U2nc ↦ refl ]
 
 -- States of the same number are the same.
 pub same-state : (a b : State) → same a b ≡ true → a ≡ b

@@ -1,4 +1,5 @@
 pub mod States
+pub mod Talk
 pub mod Remembered
 pub mod Context
 pub mod Running

@@ -4,10 +4,9 @@ use mathlib.Core.List.{List, [], _∷_}
 use mathlib.Core.Bool.{Bool, false, _||_}
 use lib.Dec.{eqb}
 use Rattle.codes.specs.declared.state.State.{State}
-use Rattle.codes.specs.declared.state.State.the-variants.{U0, U0p, U1, U2, U3, U4, U5, U6}
-use Rattle.context.specs.declared.Context.{Context}
+use Rattle.codes.specs.declared.state.State.the-variants.{U0, U0p, U1, U2, U3, U4, U5, U6, U2sl, U2wr, U2r, U2ws, U2sr, U2nc}
 
--- Document 01, "The log": state, 0 to 7 for U0, U0.p, U1, U2, U3, U4, U5, U6.
+-- Document 01, "The log": state, 0 to 7 for U0, U0.p, U1, U2, U3, U4, U5, U6. Group calls have "state numbers from 8 on for the sub-states of U2 in 002's order".
 abbrev pub numberOf : State → ℕ
 numberOf U0 = 0
 numberOf U0p = 1
@@ -17,6 +16,12 @@ numberOf U3 = 4
 numberOf U4 = 5
 numberOf U5 = 6
 numberOf U6 = 7
+numberOf U2sl = 8
+numberOf U2wr = 9
+numberOf U2r = 10
+numberOf U2ws = 11
+numberOf U2sr = 12
+numberOf U2nc = 13
 
 -- The same state.
 abbrev pub same : State → State → Bool
@@ -26,7 +31,3 @@ same a b = eqb (numberOf a) (numberOf b)
 abbrev pub among : State → List State → Bool
 among s [] = false
 among s (x ∷ xs) = same s x || among s xs
-
--- Document 01, "Received messages", rule 1: flag 1 in U0.p, U1, U2, U5 and flag 0 in U3, U4, U6.
-unfoldable pub flagOf : Context → Bool
-flagOf x = among (x .state) (U0p ∷ U1 ∷ U2 ∷ U5 ∷ [])

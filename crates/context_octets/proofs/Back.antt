@@ -9,28 +9,32 @@ use lib.ListN.{length, getD}
 use borrow.Author.Tests.{eqb-true, eqb-false, leb-true, le-leb}
 use Rattle.octets.proofs.Choice.{at-cond}
 use Rattle.codes.specs.declared.state.State.{State}
-use Rattle.codes.specs.declared.state.State.the-variants.{U0, U0p, U1, U2, U3, U4, U5, U6}
+use Rattle.codes.specs.declared.state.State.the-variants.{U0, U0p, U1, U2, U3, U4, U5, U6, U2sl, U2wr, U2r, U2ws, U2sr, U2nc}
 use Rattle.codes.specs.declared.attributes.Parameters.{Parameters}
 use Rattle.timer.specs.declared.Timers.{Timers}
 use Rattle.context.specs.declared.Context.{Context}
+use Rattle.context.specs.declared.Chooser.{Chooser}
+use Rattle.context.specs.declared.Chooser.the-variants.{Neither, Us, Cell}
+use Rattle.context.specs.declared.Talk.{Talk}
 use Rattle.context.specs.declared.Remembered.{Remembered}
 use Rattle.context.specs.declared.Remembered.the-variants as Remembered
 use Rattle.context.specs.States.{numberOf}
 use Rattle.context.specs.Remembered.{rememberedNumber}
+use Rattle.context.specs.Talk.{chooserNumber}
 use Rattle.context.proofs.Whole.{and-left, and-right}
 use Rattle.context_octets.specs.declared.Numbered.{Numbered}
 use Rattle.context_octets.specs.declared.Numbered.the-variants.{Is as IsState, NoState}
 use Rattle.context_octets.specs.declared.Reading.{Reading}
 use Rattle.context_octets.specs.declared.Reading.the-variants.{Is, NoContext}
-use Rattle.context_octets.specs.Octets.{bit, contextOf, fourNumber, isKept, isRemembered, rememberedAt, octetsOf, onState, parametersAt, stateAt, timersAt, timersNumber, withState}
+use Rattle.context_octets.specs.Octets.{bit, chooserAt, contextOf, fourNumber, isKept, isRemembered, isTalk, rememberedAt, octetsOf, onState, parametersAt, stateAt, talkAt, talkNumber, timersAt, timersNumber, withState}
 use Rattle.octets.proofs.Listed.{all-listed, listed}
-use Rattle.context_octets.proofs.Bits.{bit-most}
+use Rattle.context_octets.proofs.Bits.{bit-most, chooser-most}
 
 -- ---- what is written is read back
 
 state-back : (s : State) → stateAt (numberOf s) ≡ IsState s
 unfolding stateAt
-state-back = elim [ U0 ↦ refl | U0p ↦ refl | U1 ↦ refl | U2 ↦ refl | U3 ↦ refl | U4 ↦ refl | U5 ↦ refl | U6 ↦ refl ]
+state-back = elim [ U0 ↦ refl | U0p ↦ refl | U1 ↦ refl | U2 ↦ refl | U3 ↦ refl | U4 ↦ refl | U5 ↦ refl | U6 ↦ refl | U2sl ↦ refl | U2wr ↦ refl | U2r ↦ refl | U2ws ↦ refl | U2sr ↦ refl | U2nc ↦ refl ]
 
 -- Four bits, by their number.
 record Bits (n : ℕ) (a b c d : Bool) : Type 0 where
@@ -75,7 +79,7 @@ record Minded (n : ℕ) (r : Remembered) : Type 0 where
 
 minded : (r : Remembered) → Minded (rememberedNumber r) r
 unfolding rememberedNumber isRemembered rememberedAt
-minded = elim [ Remembered.Nothing ↦ record { one-of = refl; back = refl } | Remembered.U1 ↦ record { one-of = refl; back = refl } | Remembered.U2 ↦ record { one-of = refl; back = refl } ]
+minded = elim [ Remembered.Nothing ↦ record { one-of = refl; back = refl } | Remembered.U1 ↦ record { one-of = refl; back = refl } | Remembered.U2 ↦ record { one-of = refl; back = refl } | Remembered.U2sl ↦ record { one-of = refl; back = refl } | Remembered.U2wr ↦ record { one-of = refl; back = refl } | Remembered.U2ws ↦ record { one-of = refl; back = refl } | Remembered.U2sr ↦ record { one-of = refl; back = refl } ]
 
 -- A fifth bit that weighs 16 leaves the four as they are.
 bit-is : (e : Bool) → eqb (bit e) 1 ≡ e
@@ -100,6 +104,32 @@ over-sixteen e n a b c d h =
       one = ap (λ (k : ℕ). eqb k 1) w1 ∙ h .one;
     }
 
+-- What a group call keeps, by its number.
+record Talks (n : ℕ) (k : Talk) : Type 0 where
+  one-of : isTalk n ≡ true
+  back : talkAt n ≡ k
+
+chosen-by : (c : Chooser) → chooserAt (chooserNumber c) ≡ c
+unfolding chooserAt
+chosen-by = elim [ Neither ↦ refl | Us ↦ refl | Cell ↦ refl ]
+
+talks : (k : Talk) → Talks (talkNumber k) k
+unfolding talkNumber talkAt isTalk
+talks k =
+    let n : ℕ = 16 * bit (k .awaiting) + 8 * bit (k .status) + 4 * bit (k .termination) + chooserNumber (k .chooser) in
+    let a : bit (k .awaiting) ≤ 1 = bit-most (k .awaiting) in
+    let b : bit (k .status) ≤ 1 = bit-most (k .status) in
+    let d : bit (k .termination) ≤ 1 = bit-most (k .termination) in
+    let e : chooserNumber (k .chooser) ≤ 2 = chooser-most (k .chooser) in
+    let w16 : n / 16 % 2 ≡ bit (k .awaiting) = omega arith in
+    let w8 : n / 8 % 2 ≡ bit (k .status) = omega arith in
+    let w4 : n / 4 % 2 ≡ bit (k .termination) = omega arith in
+    let low : n % 4 ≡ chooserNumber (k .chooser) = omega arith in
+    record {
+      one-of = rw (le-leb n 31 (omega arith), le-leb (n % 4) 2 (omega arith));
+      back = rw (low, w4, w8, w16, chosen-by (k .chooser), bit-is (k .termination), bit-is (k .status), bit-is (k .awaiting));
+    }
+
 pub read-written : (x : Context) → contextOf (octetsOf x) ≡ Is x
 unfolding contextOf isKept octetsOf withState parametersAt timersAt timersNumber
 read-written x =
@@ -108,7 +138,8 @@ read-written x =
     let b = bits (p .orig) (p .comm) (p .datt) (p .uatt) in
     let c = over-sixteen (t .pres) (fourNumber (t .mmest) (t .term) (t .connreq) (t .nochannel)) (t .mmest) (t .term) (t .connreq) (t .nochannel) (bits (t .mmest) (t .term) (t .connreq) (t .nochannel)) in
     let m = minded (x .remembered) in
-    rw (b .small, c .small, m .one-of, state-back (x .state), m .back, b .eight, b .four, b .two, b .one, c .sixteen, c .eight, c .four, c .two, c .one)
+    let k = talks (x .talk) in
+    rw (b .small, c .small, m .one-of, k .one-of, state-back (x .state), m .back, k .back, b .eight, b .four, b .two, b .one, c .sixteen, c .eight, c .four, c .two, c .one)
 
 -- ---- what is read is written back
 
@@ -152,7 +183,13 @@ state-from n =
     at-cond (From n) (eqb n 4) _ _ (λ e. sym (eqb-true n 4 e)) λ e.
     at-cond (From n) (eqb n 5) _ _ (λ e. sym (eqb-true n 5 e)) λ e.
     at-cond (From n) (eqb n 6) _ _ (λ e. sym (eqb-true n 6 e)) λ e.
-    at-cond (From n) (eqb n 7) _ _ (λ e. sym (eqb-true n 7 e)) λ e. tt
+    at-cond (From n) (eqb n 7) _ _ (λ e. sym (eqb-true n 7 e)) λ e.
+    at-cond (From n) (eqb n 8) _ _ (λ e. sym (eqb-true n 8 e)) λ e.
+    at-cond (From n) (eqb n 9) _ _ (λ e. sym (eqb-true n 9 e)) λ e.
+    at-cond (From n) (eqb n 10) _ _ (λ e. sym (eqb-true n 10 e)) λ e.
+    at-cond (From n) (eqb n 11) _ _ (λ e. sym (eqb-true n 11 e)) λ e.
+    at-cond (From n) (eqb n 12) _ _ (λ e. sym (eqb-true n 12 e)) λ e.
+    at-cond (From n) (eqb n 13) _ _ (λ e. sym (eqb-true n 13 e)) λ e. tt
 
 -- So is what is remembered.
 one-left : (b : Bool) → (b || false) ≡ true → b ≡ true
@@ -164,14 +201,37 @@ unfolding rememberedNumber isRemembered rememberedAt
 minded-from n e =
     at-cond (λ (r : Remembered). rememberedNumber r ≡ n) (eqb n 2) Remembered.U1 _ (λ p. sym (eqb-true n 2 p)) λ p.
     at-cond (λ (r : Remembered). rememberedNumber r ≡ n) (eqb n 3) Remembered.U2 _ (λ q. sym (eqb-true n 3 q)) λ q.
-    sym (eqb-true n 0 (one-left (eqb n 0) (rw (p, q) at e)))
+    at-cond (λ (r : Remembered). rememberedNumber r ≡ n) (eqb n 8) Remembered.U2sl _ (λ r. sym (eqb-true n 8 r)) λ r.
+    at-cond (λ (r : Remembered). rememberedNumber r ≡ n) (eqb n 9) Remembered.U2wr _ (λ s. sym (eqb-true n 9 s)) λ s.
+    at-cond (λ (r : Remembered). rememberedNumber r ≡ n) (eqb n 11) Remembered.U2ws _ (λ t. sym (eqb-true n 11 t)) λ t.
+    at-cond (λ (r : Remembered). rememberedNumber r ≡ n) (eqb n 12) Remembered.U2sr _ (λ u. sym (eqb-true n 12 u)) λ u.
+    sym (eqb-true n 0 (one-left (eqb n 0) (one-left _ (rw (p, q, r, s, t, u) at e))))
+
+-- And so is what a group call keeps.
+chosen-from : (n : ℕ) → n ≤ 2 → chooserNumber (chooserAt n) ≡ n
+unfolding chooserAt
+chosen-from n h =
+    at-cond (λ (c : Chooser). chooserNumber c ≡ n) (eqb n 1) Us _ (λ p. sym (eqb-true n 1 p)) λ p.
+    at-cond (λ (c : Chooser). chooserNumber c ≡ n) (eqb n 2) Cell _ (λ q. sym (eqb-true n 2 q)) λ q.
+    omega (arith, eqb-false n 1 p, eqb-false n 2 q)
+
+talks-from : (n : ℕ) → isTalk n ≡ true → talkNumber (talkAt n) ≡ n
+unfolding talkNumber talkAt isTalk
+talks-from n e =
+    let h : n ≤ 31 = leb-true n 31 (and-left (leb n 31) _ e) in
+    let k : n % 4 ≤ 2 = leb-true (n % 4) 2 (and-right (leb n 31) _ e) in
+    let a : n / 8 ≡ 2 * (n / 16) + n / 8 % 2 = omega arith in
+    let b : n / 4 ≡ 2 * (n / 8) + n / 4 % 2 = omega arith in
+    let d : n ≡ 4 * (n / 4) + n % 4 = omega arith in
+    rw (bit-of (n / 16 % 2) (omega arith), bit-of (n / 8 % 2) (omega arith), bit-of (n / 4 % 2) (omega arith), chosen-from (n % 4) k) (omega arith)
 
 -- What kept octets are.
 record Kept (s : List ℕ) : Type 0 where
   parameters : getD s 1 0 ≤ 15
   timers : getD s 2 0 ≤ 31
   remembered : isRemembered (getD s 8 0) ≡ true
-  zeros : listed 7 9 s ≡ 0 ∷ 0 ∷ 0 ∷ 0 ∷ 0 ∷ 0 ∷ 0 ∷ []
+  talk : isTalk (getD s 9 0) ≡ true
+  zeros : listed 6 10 s ≡ 0 ∷ 0 ∷ 0 ∷ 0 ∷ 0 ∷ 0 ∷ []
 
 is-zero : (n : ℕ) (b : Bool) → (eqb n 0 && b) ≡ true → n ≡ 0
 is-zero n b e = eqb-true n 0 (and-left (eqb n 0) b e)
@@ -182,19 +242,19 @@ kept s e =
     let low : (leb (getD s 2 0) 31 && _) ≡ true = and-right (leb (getD s 1 0) 15) _ e in
     let rest = and-right (leb (getD s 2 0) 31) _ low in
     let a = and-left _ (eqb (getD s 12 0) 0 && (eqb (getD s 13 0) 0 && (eqb (getD s 14 0) 0 && eqb (getD s 15 0) 0))) rest in
-    let b = and-right (isRemembered (getD s 8 0) && (eqb (getD s 9 0) 0 && (eqb (getD s 10 0) 0 && eqb (getD s 11 0) 0))) _ rest in
-    let a1 = and-right (isRemembered (getD s 8 0)) _ a in
-    let a2 = and-right (eqb (getD s 9 0) 0) _ a1 in
+    let b = and-right ((isRemembered (getD s 8 0) && isTalk (getD s 9 0)) && (eqb (getD s 10 0) 0 && eqb (getD s 11 0) 0)) _ rest in
+    let said = and-left (isRemembered (getD s 8 0) && isTalk (getD s 9 0)) _ a in
+    let a1 = and-right (isRemembered (getD s 8 0) && isTalk (getD s 9 0)) _ a in
     let b1 = and-right (eqb (getD s 12 0) 0) _ b in
     let b2 = and-right (eqb (getD s 13 0) 0) _ b1 in
     record {
       parameters = leb-true (getD s 1 0) 15 (and-left (leb (getD s 1 0) 15) _ e);
       timers = leb-true (getD s 2 0) 31 (and-left (leb (getD s 2 0) 31) _ low);
-      remembered = and-left (isRemembered (getD s 8 0)) _ a;
+      remembered = and-left (isRemembered (getD s 8 0)) _ said;
+      talk = and-right (isRemembered (getD s 8 0)) _ said;
       zeros = rw (
-        is-zero (getD s 9 0) _ a1,
-        is-zero (getD s 10 0) _ a2,
-        eqb-true (getD s 11 0) 0 (and-right (eqb (getD s 10 0) 0) _ a2),
+        is-zero (getD s 10 0) _ a1,
+        eqb-true (getD s 11 0) 0 (and-right (eqb (getD s 10 0) 0) _ a1),
         is-zero (getD s 12 0) _ b,
         is-zero (getD s 13 0) _ b1,
         is-zero (getD s 14 0) _ b2,
@@ -210,7 +270,7 @@ Written s NoContext = Unit
 state-written : (s : List ℕ) → length s ≡ 16 → Kept s → (t : Numbered) → From (getD s 0 0) t → Written s (onState s t)
 unfolding octetsOf withState parametersAt
 state-written s l k (IsState state) f =
-    rw (f, parameters-back (getD s 1 0) (k .parameters), timers-back (getD s 2 0) (k .timers), minded-from (getD s 8 0) (k .remembered), ← k .zeros) (sym (all-listed 16 s l))
+    rw (f, parameters-back (getD s 1 0) (k .parameters), timers-back (getD s 2 0) (k .timers), minded-from (getD s 8 0) (k .remembered), talks-from (getD s 9 0) (k .talk), ← k .zeros) (sym (all-listed 16 s l))
 state-written s l k NoState f = tt
 
 pub written-read : (s : List ℕ) → length s ≡ 16 → Written s (contextOf s)

@@ -6,7 +6,11 @@ use native.Mathlib.Omega.{arith}
 use native.Mathlib.Nat.{zero-add}
 use mir.Val.{boolByte}
 use Rattle.timer.specs.declared.Timers.{Timers}
-use Rattle.context_octets.specs.Octets.{bit, fourNumber, timersNumber}
+use Rattle.context.specs.declared.Chooser.{Chooser}
+use Rattle.context.specs.declared.Chooser.the-variants.{Neither, Us, Cell}
+use Rattle.context.specs.declared.Talk.{Talk}
+use Rattle.context.specs.Talk.{chooserNumber}
+use Rattle.context_octets.specs.Octets.{bit, fourNumber, talkNumber, timersNumber}
 
 byte-most : (set : Bool) → boolByte set ≤ 1
 byte-most true = omega arith
@@ -17,7 +21,7 @@ byte-bit true = refl
 byte-bit false = refl
 
 -- A bit's weight, and the sums on the way, are octets.
-pub weight-fits : (n : ℕ) (a : Bool) → n ≤ 8 → n * boolByte a < 256
+pub weight-fits : (n : ℕ) (a : Bool) → n ≤ 16 → n * boolByte a < 256
 weight-fits n true h = omega arith
 weight-fits n false h = omega arith
 
@@ -52,3 +56,23 @@ module _ (t : Timers) (four : ℕ) (is : four ≡ fourNumber (t .mmest) (t .term
   pub without-sixteen : t .pres ≡ false → four ≡ timersNumber t
   unfolding timersNumber
   without-sixteen e = rw e (is ∙ sym (zero-add _))
+
+-- What a group call keeps: the sums on the way are octets, and the last is the definition's number.
+pub chooser-most : (c : Chooser) → chooserNumber c ≤ 2
+chooser-most Neither = omega arith
+chooser-most Us = omega arith
+chooser-most Cell = omega arith
+
+pub awaited-fit : (a b : Bool) → 16 * boolByte a + 8 * boolByte b < 256
+awaited-fit a b = omega (arith, byte-most a, byte-most b)
+
+pub pending-fit : (a b c : Bool) → 16 * boolByte a + 8 * boolByte b + 4 * boolByte c < 256
+pending-fit a b c = omega (arith, byte-most a, byte-most b, byte-most c)
+
+module _ (k : Talk) (side : ℕ) (is : side ≡ chooserNumber (k .chooser)) where
+  pub talk-fit : 16 * boolByte (k .awaiting) + 8 * boolByte (k .status) + 4 * boolByte (k .termination) + side < 256
+  talk-fit = omega (arith, byte-most (k .awaiting), byte-most (k .status), byte-most (k .termination), chooser-most (k .chooser), is)
+
+  pub talk-same : 16 * boolByte (k .awaiting) + 8 * boolByte (k .status) + 4 * boolByte (k .termination) + side ≡ talkNumber k
+  unfolding talkNumber
+  talk-same = rw (byte-bit (k .awaiting), byte-bit (k .status), byte-bit (k .termination), is)

@@ -1,10 +1,12 @@
 // A context as the sixteen octets that a host in C keeps of it: read, where they are a context, and written.
 ghost use mathlib.Core.Path.{_≡_};
-ghost use Rattle.context_octets.specs.Octets.{contextOf, fourNumber, isKept, isRemembered, octetsOf, parametersAt, rememberedAt, stateAt, timersAt, timersNumber, withState};
+ghost use Rattle.context_octets.specs.Octets.{chooserAt, contextOf, fourNumber, isKept, isRemembered, isTalk, octetsOf, parametersAt, rememberedAt, stateAt, talkAt, talkNumber, timersAt, timersNumber, withState};
 use codes::attributes::Parameters;
 use codes::state::State;
+use context::Chooser;
 use context::Context;
 use context::Remembered;
+use context::Talk;
 use octets::Reference;
 use timer::Timers;
 
@@ -20,7 +22,7 @@ pub enum Numbered {
     NoState,
 }
 
-// The state of a number from 0 to 7.
+// The state of a number from 0 to 13.
 fn state_at(number: u8) -> Numbered
     ensures { λ r. ⌜ r ≡ stateAt number ⌝ }
 {
@@ -33,6 +35,12 @@ fn state_at(number: u8) -> Numbered
         5 => Numbered::Is(State::U4),
         6 => Numbered::Is(State::U5),
         7 => Numbered::Is(State::U6),
+        8 => Numbered::Is(State::U2sl),
+        9 => Numbered::Is(State::U2wr),
+        10 => Numbered::Is(State::U2r),
+        11 => Numbered::Is(State::U2ws),
+        12 => Numbered::Is(State::U2sr),
+        13 => Numbered::Is(State::U2nc),
         _ => Numbered::NoState,
     }
 }
@@ -87,6 +95,10 @@ fn remembered_at(number: u8) -> Remembered
     match number {
         2 => Remembered::U1,
         3 => Remembered::U2,
+        8 => Remembered::U2sl,
+        9 => Remembered::U2wr,
+        11 => Remembered::U2ws,
+        12 => Remembered::U2sr,
         _ => Remembered::Nothing,
     }
 }
@@ -95,15 +107,58 @@ fn remembered_at(number: u8) -> Remembered
 fn is_remembered(number: u8) -> bool
     ensures { λ r. ⌜ r ≡ isRemembered number ⌝ }
 {
-    (number == 0) | ((number == 2) | (number == 3))
+    let broadcast = (number == 0) | ((number == 2) | (number == 3));
+    let group = (number == 8) | ((number == 9) | ((number == 11) | (number == 12)));
+    broadcast | group
 }
 
-// Whether parameters are below 16 and timers below 32, something or nothing is remembered, and the last seven octets are zero.
+// Which side chose the value, by its number.
+fn chooser_at(number: u8) -> Chooser
+    ensures { λ r. ⌜ r ≡ chooserAt number ⌝ }
+{
+    match number {
+        1 => Chooser::Us,
+        2 => Chooser::Cell,
+        _ => Chooser::Neither,
+    }
+}
+
+// 16 a value awaited + 8 a STATUS pending + 4 a termination request pending + which side chose the value, taken apart.
+fn talk_at(number: u8) -> Talk
+    ensures { λ r. ⌜ r ≡ talkAt number ⌝ }
+{
+    let chooser = chooser_at(number % 4);
+    Talk {
+        chooser,
+        termination: number / 4 % 2 == 1,
+        status: number / 8 % 2 == 1,
+        awaiting: number / 16 % 2 == 1,
+    }
+}
+
+// The same, as a number.
+fn talk_number(talk: Talk) -> u8
+    ensures { λ r. ⌜ r ≡ talkNumber talk ⌝ }
+{
+    let side = talk.chooser;
+    let chooser = context::chooser_number(side);
+    16 * (talk.awaiting as u8) + 8 * (talk.status as u8) + 4 * (talk.termination as u8) + chooser
+}
+
+// Whether a number says what a group call keeps.
+fn is_talk(number: u8) -> bool
+    ensures { λ r. ⌜ r ≡ isTalk number ⌝ }
+{
+    (number <= 31) & (number % 4 <= 2)
+}
+
+// Whether parameters are below 16 and timers below 32, octets 8 and 9 say what is remembered and what a group call keeps, and the last six octets are zero.
 fn is_kept(octets: &[u8; 16]) -> bool
     ensures { λ r. ⌜ r ≡ isKept (now (octets .entry)) ⌝ }
 {
     let noted = is_remembered(octets[8]);
-    let first = noted & ((octets[9] == 0) & ((octets[10] == 0) & (octets[11] == 0)));
+    let talks = is_talk(octets[9]);
+    let first = (noted & talks) & ((octets[10] == 0) & (octets[11] == 0));
     let last = (octets[12] == 0) & ((octets[13] == 0) & ((octets[14] == 0) & (octets[15] == 0)));
     (octets[1] <= 15) & ((octets[2] <= 31) & (first & last))
 }
@@ -121,6 +176,7 @@ fn with_state(octets: &[u8; 16], state: State) -> Context
         fourth: octets[7],
     };
     let remembered = remembered_at(octets[8]);
+    let talk = talk_at(octets[9]);
     Context {
         state,
         parameters,
@@ -128,6 +184,7 @@ fn with_state(octets: &[u8; 16], state: State) -> Context
         value: octets[3],
         reference,
         remembered,
+        talk,
     }
 }
 
@@ -157,6 +214,8 @@ pub fn write(context: Context, octets: &mut [u8; 16])
     let timers = timers_number(run);
     let remembered = context.remembered;
     let noted = context::remembered_number(remembered);
+    let talk = context.talk;
+    let talks = talk_number(talk);
     *octets = [
         number,
         parameters,
@@ -167,7 +226,7 @@ pub fn write(context: Context, octets: &mut [u8; 16])
         call.third,
         call.fourth,
         noted,
-        0,
+        talks,
         0,
         0,
         0,

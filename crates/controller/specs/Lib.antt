@@ -1,3 +1,2 @@
 pub mod Hosting
 pub mod Numbering
-pub mod Recording

@@ -69,10 +69,23 @@ pub fn line(descriptor: i32, class: &[u8], x: u64, y: u64, to_x: u64, to_y: u64)
 
 // A shape that starts at a place; `steps` are the rest of its path.
 pub fn shape(descriptor: i32, class: &[u8], x: u64, y: u64, steps: &[u8]) {
+    repeated_shape(descriptor, class, x, y, steps, 1);
+}
+
+// The same with its steps so many times.
+pub fn repeated_shape(descriptor: i32, class: &[u8], x: u64, y: u64, steps: &[u8], times: u8) {
     begin(descriptor, b"<path class=\"", class);
     write_form(descriptor, b"\" d=\"M# #", &[x, y]);
-    write_text(descriptor, steps);
+    write_times(descriptor, steps, times);
     write_text(descriptor, b"\"/>\n");
+}
+
+fn write_times(descriptor: i32, text: &[u8], times: u8) {
+    let mut left = times;
+    while 0 < left {
+        write_text(descriptor, text);
+        left -= 1;
+    }
 }
 
 // Words whose line starts, or has its middle, at a place; `end_text` follows them.

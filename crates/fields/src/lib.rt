@@ -1,5 +1,6 @@
 // What the commands of the probe and the words for people share: the typed words of a command line, the answer to a line that is no command, an octet by its
-// place, and the number of a fault.
+// place, the number of a fault, and the messages of a reply.
+pub mod reply_messages;
 pub mod words;
 
 use message::Fault;

@@ -15,7 +15,8 @@ fn write_help(descriptor: i32) {
     io::write_all(
         descriptor,
         b"usage: heidezirkel WORD [ARGUMENT..]\n\
-          Broadcast call control of GSM 04.69 for mobile stations: the radio's side of the call that carries the warning.\n  \
+          Broadcast call control of GSM 04.69 for mobile stations: the radio's side of the call that carries the warning.\n\
+          Group calls with talk-back, 24.068, too.\n  \
           judge SETTINGS LOG          says whether a log is what a radio does, and with which timers\n  \
           ignored SETTINGS LOG        lists the messages that the radio ignored, each with the reason\n  \
           show LOG                    says what a log holds, a line an entry\n  \

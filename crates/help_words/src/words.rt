@@ -19,7 +19,8 @@ fn tell_probe_help() {
           octets are lower-case hexadecimal, - for none; numbers are decimal. A line that is no command: ?\n  \
           read OCTETS                            6, or 13 FAULT, or 0 FLAG VALUE KIND FIELDS..\n  \
           write LENGTH FLAG VALUE KIND FIELDS..  5, or 4, or 0 OCTETS\n  \
-          step, settings, judge, record          as docs/PROBE.md has them\n\
+          step, settings, judge, record          as docs/PROBE.md has them\n  \
+          gread, gwrite, gstep, grecord          the same of a group call\n\
           KIND and FIELDS: connect REFERENCE ORIGINATOR, get_status IDENTITY,\n  \
           immediate_setup KEY CLASSMARK IDENTITY REFERENCE, set_parameter ATTRIBUTES, setup REFERENCE,\n  \
           status CAUSE STATE ATTRIBUTES, termination CAUSE, termination_reject CAUSE,\n  \
@@ -56,7 +57,7 @@ fn tell_judge_help() {
           A settings file that is refused stops it at its line.\n\
           A log is judged by the rules of its version, which is told last. After a rejected termination the radio stays in U5 in version 1,\n\
           and from version 2 on is back in the state that it asked from. From version 3 on an invitation that nobody joins is forgotten\n\
-          when its timer ends. A log of another version is refused.\n\
+          when its timer ends. Version 16 is of a group call, in which nothing ends an invitation. A log of another version is refused.\n\
           Exit status: 0 accepted, 1 refused, 2 a file can't be opened.\n",
     );
 }
@@ -90,13 +91,16 @@ fn tell_record_help() {
         b"usage: heidezirkel record SETTINGS SCRIPT LOG\n\
           Takes each event of the script through the step of a radio with these settings, from a cleared context, and writes what\n\
           the step gives to a new file LOG, a log of version 3. It judges no time: a script may tell of a radio whose timer runs wrong.\n\
+          A line call group before the first event makes it a group call's, and the log one of version 16.\n\
           A line of the script: TIME EVENT [DATA..], words parted by spaces. A line that starts with # and an empty one say nothing.\n  \
           TIME    milliseconds from the start of the log; it never goes back\n  \
           EVENT   set-up-request, immediate-set-up-request, broadcast-notified: DATA value=N reference=H,\n          \
           N 0 to 6, H 8 hexadecimal digits\n          \
           message: DATA acknowledged or unacknowledged, then the octets in hexadecimal words, which are joined\n          \
           join, terminate, release, mm-established, mm-failed, link-failure, abort, receive-mode-entered, no-channel,\n          \
-          channel-available, t-mm-est-expired, t-term-expired, t-conn-req-expired, t-no-channel-expired, t-pres-expired: no DATA\n\
+          channel-available, t-mm-est-expired, t-term-expired, t-conn-req-expired, t-no-channel-expired, t-pres-expired: no DATA\n          \
+          in a group call group-notified for broadcast-notified, no t-pres-expired, and without DATA request-receive-mode,\n          \
+          request-talk, transmit-mode-entered, dedicated-mode-entered, delete-pending-termination\n\
           A line that can't be read, or whose step gives an answer that no log holds, is told with what is wanted, and no log is made.\n\
           Each message that is recorded as ignored is told, with the reason.\n\
           Exit status: 0 the log is made, 1 the settings or the script are refused, 2 a file can't be opened or written.\n",

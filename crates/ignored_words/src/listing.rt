@@ -1,6 +1,7 @@
 // A log's entries from a cleared context on, each taken through its step once more: a line for each whose message is ignored, and how many are for each reason.
 use crate::reason::tell_particulars;
 use crate::reason::tell_reason;
+use codes::protocol::Protocol;
 use context::Context;
 use context::state_number;
 use fields::fault_number;
@@ -83,12 +84,24 @@ fn pass_entry(table: Table, own: Own, identity: &[u8], log: &[u8], before: Passe
         context: after,
         place,
     };
-    tell_passed(identity, message_of(log, entry), context, passed);
+    tell_passed(
+        version::protocol(table),
+        identity,
+        message_of(log, entry),
+        context,
+        passed,
+    );
     passed
 }
 
 // The line of an entry that is passed; `context` is the one before it.
-fn tell_passed(identity: &[u8], octets: &[u8], context: Context, passed: Passed) {
+fn tell_passed(
+    protocol: Protocol,
+    identity: &[u8],
+    octets: &[u8],
+    context: Context,
+    passed: Passed,
+) {
     if passed.reason == 0 {
         return;
     }
@@ -98,18 +111,18 @@ fn tell_passed(identity: &[u8], octets: &[u8], context: Context, passed: Passed)
     tell_time(passed.time);
     write_state_name(STDOUT_FILENO, (state_number(state) % 256) as u8);
     tell(b", ");
-    tell_kind(octets);
+    tell_kind(protocol, octets);
     tell(b" ignored (");
     tell_reason(passed.reason);
     tell(b")");
-    tell_particulars(passed.reason, context, identity, octets);
+    tell_particulars(protocol, passed.reason, context, identity, octets);
     tell(b"\n");
 }
 
 // The kind of a message, as far as its octets say: one of another protocol has none of ours.
-fn tell_kind(octets: &[u8]) {
+fn tell_kind(protocol: Protocol, octets: &[u8]) {
     let second = octet_at(octets, 1);
-    match fault_of(octets) {
+    match fault_of(protocol, octets) {
         1..=2 => {
             tell(b"message of ");
             tell_count(octets.len(), b" octet", b" octets");
@@ -127,8 +140,8 @@ fn tell_kind(octets: &[u8]) {
 }
 
 // The number of a message's fault, and 0 where it has none. No log holds a message that is too long.
-fn fault_of(octets: &[u8]) -> u8 {
-    match message::read(octets) {
+fn fault_of(protocol: Protocol, octets: &[u8]) -> u8 {
+    match message::read(protocol, octets) {
         Reading::Is {
             flag: _,
             value: _,

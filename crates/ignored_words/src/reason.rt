@@ -1,4 +1,6 @@
 // Why a message is ignored, in words: the number and the name of the reason, and what the message has beside what the call has.
+use codes::protocol::Protocol;
+use codes::protocol::discriminator;
 use context::Context;
 use context::expected_flag;
 use fields::octet_at;
@@ -25,36 +27,54 @@ pub(crate) fn tell_reason(reason: u8) {
 }
 
 // What the reason is in this message, from the context before it, for a radio of this identity.
-pub(crate) fn tell_particulars(reason: u8, context: Context, identity: &[u8], octets: &[u8]) {
+pub(crate) fn tell_particulars(
+    protocol: Protocol,
+    reason: u8,
+    context: Context,
+    identity: &[u8],
+    octets: &[u8],
+) {
     let first = octet_at(octets, 0);
-    let flag = expected_flag(context);
     match reason {
         1 => {}
         2 => tell(b": a message has at least 2 octets"),
-        3 => tell_protocol(first),
-        4 => tell_transaction(first, context.value, flag),
-        5 => tell_identities(octets, identity),
+        3 => tell_protocol(protocol, first),
+        4 => tell_transaction(first, context),
+        5 => tell_identities(protocol, octets, identity),
         _ => tell(b": it is not answered"),
     }
 }
 
-fn tell_protocol(first: u8) {
+fn tell_protocol(protocol: Protocol, first: u8) {
     tell(b": discriminator ");
     tell_number(first % 16);
-    tell(b", a broadcast call's is 1");
+    match protocol {
+        Protocol::Broadcast => tell(b", a broadcast call's is "),
+        Protocol::Group => tell(b", a group call's is "),
+    }
+    tell_number(discriminator(protocol));
 }
 
-// The upper half of the first octet is a flag and a value.
-fn tell_transaction(first: u8, value: u8, flag: bool) {
+// The upper half of the first octet is a flag and a value. A call that awaits a value takes any but 7.
+fn tell_transaction(first: u8, context: Context) {
     let found = first / 16 % 8;
+    let talk = context.talk;
     tell(b": transaction ");
     tell_number(found);
-    if found != value {
+    if !talk.awaiting & (found != context.value) {
         tell(b", this call has ");
-        tell_number(value);
+        tell_number(context.value);
         return;
     }
-    if flag {
+    if talk.awaiting & (found == 7) {
+        tell(b", this call awaits 0 to 6");
+        return;
+    }
+    tell_flags(expected_flag(context));
+}
+
+fn tell_flags(expected: bool) {
+    if expected {
         tell(b" with flag 0, this call expects flag 1");
         return;
     }
@@ -62,12 +82,12 @@ fn tell_transaction(first: u8, value: u8, flag: bool) {
 }
 
 // Only GET STATUS names an identity.
-fn tell_identities(octets: &[u8], identity: &[u8]) {
+fn tell_identities(protocol: Protocol, octets: &[u8], identity: &[u8]) {
     let Reading::Is {
         flag: _,
         value: _,
         message,
-    } = message::read(octets)
+    } = message::read(protocol, octets)
     else {
         return;
     };

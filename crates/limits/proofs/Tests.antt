@@ -25,38 +25,38 @@ pub and-right : (a b : Bool) → a && b ≡ true → b ≡ true
 and-right true b e = e
 and-right false b e = never e
 
-module _ (s : List ℕ) (run : Run) (most : ℕ) where
-  pub run-none : run .count < 1 → false ≡ runFits s run most
+module _ (s : List ℕ) (run : Run) (least most : ℕ) where
+  pub run-none : run .count < least → false ≡ runFits s run least most
   unfolding runFits
   run-none h = simp (lt-leb _ _ h)
 
-  pub run-many : 1 ≤ run .count → most < run .count → false ≡ runFits s run most
+  pub run-many : least ≤ run .count → most < run .count → false ≡ runFits s run least most
   unfolding runFits
   run-many h k = simp (le-leb _ _ h, lt-leb _ _ k)
 
-  pub run-past : length s < run .start + run .count → false ≡ runFits s run most
+  pub run-past : length s < run .start + run .count → false ≡ runFits s run least most
   unfolding runFits lies
   run-past h = simp (lt-leb _ _ h, and-false)
 
-  pub run-good : 1 ≤ run .count → run .count ≤ most → run .start + run .count ≤ length s → true ≡ runFits s run most
+  pub run-good : least ≤ run .count → run .count ≤ most → run .start + run .count ≤ length s → true ≡ runFits s run least most
   unfolding runFits lies
   run-good h k l = simp (le-leb _ _ h, le-leb _ _ k, le-leb _ _ l)
 
   -- What a run's test says.
   pub record Good : Type 0 where
-    pub some : 1 ≤ run .count
+    pub some : least ≤ run .count
     pub few : run .count ≤ most
     pub there : run .start + run .count ≤ length s
     pub full : length (runOctets s run) ≡ run .count
 
-  pub good : runFits s run most ≡ true → Good
+  pub good : runFits s run least most ≡ true → Good
   unfolding runFits lies
   good e =
-      let front : leb 1 (run .count) && leb (run .count) most ≡ true = and-left _ (lies s run) e in
-      let l : run .start + run .count ≤ length s = leb-true _ _ (and-right (leb 1 (run .count) && leb (run .count) most) _ e) in
+      let front : leb least (run .count) && leb (run .count) most ≡ true = and-left _ (lies s run) e in
+      let l : run .start + run .count ≤ length s = leb-true _ _ (and-right (leb least (run .count) && leb (run .count) most) _ e) in
       record {
-        some = leb-true _ _ (and-left (leb 1 (run .count)) (leb (run .count) most) front);
-        few = leb-true _ _ (and-right (leb 1 (run .count)) (leb (run .count) most) front);
+        some = leb-true _ _ (and-left (leb least (run .count)) (leb (run .count) most) front);
+        few = leb-true _ _ (and-right (leb least (run .count)) (leb (run .count) most) front);
         there = l;
         full = part-length s (run .start) (run .count) l;
       }
@@ -77,27 +77,27 @@ pub half-below : (half : Half) (value : ℕ) → half ≡ Present value → half
 half-below half value e g = ltb-true value 16 (sym (ap halfFits e) ∙ g)
 
 module _ (s : List ℕ) (cause : Run) (state attributes : Half) where
-  pub status-run : runFits s cause 247 ≡ false → false ≡ statusFits s cause state attributes
+  pub status-run : runFits s cause 1 247 ≡ false → false ≡ statusFits s cause state attributes
   unfolding statusFits
   status-run r = simp r
 
-  pub status-state : runFits s cause 247 ≡ true → halfFits state ≡ false → false ≡ statusFits s cause state attributes
+  pub status-state : runFits s cause 1 247 ≡ true → halfFits state ≡ false → false ≡ statusFits s cause state attributes
   unfolding statusFits
   status-state r x = simp (r, x)
 
-  pub status-attributes : runFits s cause 247 ≡ true → halfFits state ≡ true → halfFits attributes ≡ false
+  pub status-attributes : runFits s cause 1 247 ≡ true → halfFits state ≡ true → halfFits attributes ≡ false
       → false ≡ statusFits s cause state attributes
   unfolding statusFits
   status-attributes r x y = simp (r, x, y)
 
-  pub status-total : (p q : ℕ) → runFits s cause 247 ≡ true → halfFits state ≡ true → halfFits attributes ≡ true → p ≡ halfCount state
+  pub status-total : (p q : ℕ) → runFits s cause 1 247 ≡ true → halfFits state ≡ true → halfFits attributes ≡ true → p ≡ halfCount state
       → q ≡ halfCount attributes → leb (3 + cause .count + p + q) 251 ≡ statusFits s cause state attributes
   unfolding statusFits
   status-total p q r x y a b = simp (r, x, y, a, b)
 
   -- What a STATUS's test says.
   pub record Fine : Type 0 where
-    pub run : runFits s cause 247 ≡ true
+    pub run : runFits s cause 1 247 ≡ true
     pub first : halfFits state ≡ true
     pub second : halfFits attributes ≡ true
     pub total : 3 + cause .count + halfCount state + halfCount attributes ≤ 251
@@ -106,11 +106,11 @@ module _ (s : List ℕ) (cause : Run) (state attributes : Half) where
   unfolding statusFits
   fine e =
       let total : Bool = leb (3 + cause .count + halfCount state + halfCount attributes) 251 in
-      let three : runFits s cause 247 && halfFits state && halfFits attributes ≡ true = and-left _ total e in
-      let two : runFits s cause 247 && halfFits state ≡ true = and-left _ (halfFits attributes) three in
+      let three : runFits s cause 1 247 && halfFits state && halfFits attributes ≡ true = and-left _ total e in
+      let two : runFits s cause 1 247 && halfFits state ≡ true = and-left _ (halfFits attributes) three in
       record {
         run = and-left _ (halfFits state) two;
-        first = and-right (runFits s cause 247) _ two;
-        second = and-right (runFits s cause 247 && halfFits state) _ three;
-        total = leb-true _ _ (and-right (runFits s cause 247 && halfFits state && halfFits attributes) _ e);
+        first = and-right (runFits s cause 1 247) _ two;
+        second = and-right (runFits s cause 1 247 && halfFits state) _ three;
+        total = leb-true _ _ (and-right (runFits s cause 1 247 && halfFits state && halfFits attributes) _ e);
       }

@@ -4,15 +4,22 @@ use Prim.Native.Nat.{ℕ, _+_}
 use mathlib.Core.List.{List}
 use mathlib.Core.Bool.{Bool, _&&_}
 use lib.Dec.{leb}
+use Rattle.codes.specs.declared.protocol.Protocol.{Protocol}
+use Rattle.codes.specs.declared.protocol.Protocol.the-variants.{Broadcast, Group}
 use Rattle.octets.specs.declared.Run.{Run}
 use Rattle.message.specs.declared.Half.{Half}
 use Rattle.message.specs.declared.Half.the-variants.{Absent, Present}
 use Rattle.message.specs.Content.{lies}
 use Rattle.message.specs.Tables.{formatTV, elementFits}
 
--- A run of 1 to `most` octets within `s`.
-unfoldable pub runFits : List ℕ → Run → ℕ → Bool
-runFits s run most = leb 1 (run .count) && leb (run .count) most && lies s run
+-- A run of `least` to `most` octets within `s`.
+unfoldable pub runFits : List ℕ → Run → ℕ → ℕ → Bool
+runFits s run least most = leb least (run .count) && leb (run .count) most && lies s run
+
+-- The cause of a TERMINATION REJECT.
+unfoldable pub rejectFits : Protocol → List ℕ → Run → Bool
+rejectFits Broadcast s cause = runFits s cause 1 247
+rejectFits Group s cause = runFits s cause 4 4
 
 -- An optional half octet: as its row in the table has it.
 abbrev pub halfFits : Half → Bool
@@ -26,4 +33,4 @@ halfCount (Present value) = 1
 -- A STATUS: its fields, and at most 251 octets in all.
 unfoldable pub statusFits : List ℕ → Run → Half → Half → Bool
 statusFits s cause state attributes =
-    runFits s cause 247 && halfFits state && halfFits attributes && leb (3 + cause .count + halfCount state + halfCount attributes) 251
+    runFits s cause 1 247 && halfFits state && halfFits attributes && leb (3 + cause .count + halfCount state + halfCount attributes) 251

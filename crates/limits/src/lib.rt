@@ -1,16 +1,17 @@
 // Whether the fields of a message are as wide and as long as clauses 8 and 9 draw, and lie within the lent octets: what a writer asks before it writes.
 ghost use mathlib.Core.Path.{_≡_};
-ghost use Rattle.limits.specs.Limits.{runFits, halfFits, halfCount, statusFits};
+ghost use Rattle.limits.specs.Limits.{runFits, rejectFits, halfFits, halfCount, statusFits};
+use codes::protocol::Protocol;
 use message::Half;
 use octets::Run;
 
-// Whether a run of 1 to `most` octets lies within `source`.
-fn run_fits(source: &[u8], run: Run, most: usize) -> bool
-    ensures { λ r. ⌜ r ≡ runFits (now (source .entry)) run most ⌝ }
+// Whether a run of `least` to `most` octets lies within `source`.
+fn run_fits(source: &[u8], run: Run, least: usize, most: usize) -> bool
+    ensures { λ r. ⌜ r ≡ runFits (now (source .entry)) run least most ⌝ }
 {
     let start = run.start;
     let count = run.count;
-    if count < 1 {
+    if count < least {
         return false;
     }
     if most < count {
@@ -27,16 +28,26 @@ fn run_fits(source: &[u8], run: Run, most: usize) -> bool
 
 // Whether a mobile identity fits.
 pub fn identity_fits(source: &[u8], identity: Run) -> bool
-    ensures { λ r. ⌜ r ≡ runFits (now (source .entry)) identity 8 ⌝ }
+    ensures { λ r. ⌜ r ≡ runFits (now (source .entry)) identity 1 8 ⌝ }
 {
-    run_fits(source, identity, 8)
+    run_fits(source, identity, 1, 8)
 }
 
 // Whether a cause fits.
 pub fn cause_fits(source: &[u8], cause: Run) -> bool
-    ensures { λ r. ⌜ r ≡ runFits (now (source .entry)) cause 247 ⌝ }
+    ensures { λ r. ⌜ r ≡ runFits (now (source .entry)) cause 1 247 ⌝ }
 {
-    run_fits(source, cause, 247)
+    run_fits(source, cause, 1, 247)
+}
+
+// Whether the cause of a TERMINATION REJECT fits.
+pub fn reject_fits(protocol: Protocol, source: &[u8], cause: Run) -> bool
+    ensures { λ r. ⌜ r ≡ rejectFits protocol (now (source .entry)) cause ⌝ }
+{
+    match protocol {
+        Protocol::Broadcast => cause_fits(source, cause),
+        Protocol::Group => run_fits(source, cause, 4, 4),
+    }
 }
 
 // Whether a half octet holds the value.

@@ -7,6 +7,8 @@ use native.Mathlib.Omega.{arith}
 use lib.ListN.{length, getD}
 use lib.Dec.{leb}
 use borrow.Author.Tests.{le-leb, lt-leb, le-ltb, eq-eqb}
+use Rattle.codes.specs.declared.protocol.Protocol.{Protocol}
+use Rattle.codes.specs.Protocol.{discriminator}
 use Rattle.octets.specs.declared.Run.{Run}
 use Rattle.element.specs.declared.Found.{Found}
 use Rattle.element.specs.declared.Counted.{Counted}
@@ -104,8 +106,8 @@ module _ (s : List ℕ) where
       ∙ counted-run s 2 1 247 (statusBehind s) (Octets run) e
 
 -- Behind a good first octet and type the body decides.
-pub head-good : (s : List ℕ) (b : Body) → length s ≤ 251 → 2 ≤ length s → getD s 0 0 % 16 ≡ 1 → getD s 1 0 < 128
-    → b ≡ bodyOf s (getD s 1 0 % 64) → readAs (leb 128 (getD s 0 0)) (getD s 0 0 / 16 % 8) b ≡ readMessage s
+pub head-good : (protocol : Protocol) (s : List ℕ) (b : Body) → length s ≤ 251 → 2 ≤ length s → getD s 0 0 % 16 ≡ discriminator protocol → getD s 1 0 < 128
+    → b ≡ bodyOf protocol s (getD s 1 0 % 64) → readAs (leb 128 (getD s 0 0)) (getD s 0 0 / 16 % 8) b ≡ readMessage protocol s
 unfolding readMessage
-head-good s b h k d t e =
+head-good protocol s b h k d t e =
     simp (le-ltb _ _ h, le-ltb _ _ k, eq-eqb _ _ d, lt-leb _ _ t) (ap (readAs (leb 128 (getD s 0 0)) (getD s 0 0 / 16 % 8)) e)

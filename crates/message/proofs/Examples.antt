@@ -4,6 +4,8 @@ use mathlib.Core.Path.{_≡_, refl}
 use mathlib.Core.List.{List, [], _∷_}
 use mathlib.Core.Bool.{true, false}
 use lib.ListN.{replicate}
+use Rattle.codes.specs.declared.protocol.Protocol.the-variants.{Broadcast, Group}
+use Rattle.codes.specs.Protocol.{discriminator}
 use Rattle.octets.specs.declared.Run.{Run}
 use Rattle.element.specs.Elements.{within, nextElement, elementAmong, elementFrom}
 use Rattle.element.specs.Counted.{countedAt}
@@ -56,18 +58,19 @@ abbrev run : ℕ → ℕ → Run
 run start count = record { start = start; count = count }
 
 -- One message of each kind.
-pub kinds : (readMessage (0x11 ∷ 0x33 ∷ 1 ∷ 2 ∷ 3 ∷ 4 ∷ 0x01 ∷ []) ≡ Is false 1 (Connect reference 1))
-    × (readMessage (0x91 ∷ 0x39 ∷ 0x17 ∷ 2 ∷ 0xF4 ∷ 0x21 ∷ []) ≡ Is true 1 (GetStatus (Named (run 4 2))))
-    × (readMessage (0xE1 ∷ 0x31 ∷ 0x50 ∷ 3 ∷ 0x33 ∷ 0x19 ∷ 0xA2 ∷ 1 ∷ 0xF4 ∷ 1 ∷ 2 ∷ 3 ∷ 4 ∷ [])
+pub kinds : (readMessage Broadcast (0x11 ∷ 0x33 ∷ 1 ∷ 2 ∷ 3 ∷ 4 ∷ 0x01 ∷ []) ≡ Is false 1 (Connect reference 1))
+    × (readMessage Broadcast (0x91 ∷ 0x39 ∷ 0x17 ∷ 2 ∷ 0xF4 ∷ 0x21 ∷ []) ≡ Is true 1 (GetStatus (Named (run 4 2))))
+    × (readMessage Broadcast (0xE1 ∷ 0x31 ∷ 0x50 ∷ 3 ∷ 0x33 ∷ 0x19 ∷ 0xA2 ∷ 1 ∷ 0xF4 ∷ 1 ∷ 2 ∷ 3 ∷ 4 ∷ [])
     ≡ Is true 6 (ImmediateSetup 5 (record { first = 0x33; second = 0x19; third = 0xA2 }) (run 8 1) reference))
-    × (readMessage (0x01 ∷ 0x3A ∷ 0x0D ∷ []) ≡ Is false 0 (SetParameter 13))
-    × (readMessage (0x01 ∷ 0x32 ∷ 1 ∷ 2 ∷ 3 ∷ 4 ∷ []) ≡ Is false 0 (Setup reference))
-    × (readMessage (0x81 ∷ 0x38 ∷ 1 ∷ 0x9E ∷ 0xA2 ∷ 0xBF ∷ []) ≡ Is true 0 (Status (run 3 1) (Present 2) (Present 15)))
-    × (readMessage (0x71 ∷ 0x34 ∷ 1 ∷ 0x90 ∷ []) ≡ Is false 7 (Termination (run 3 1)))
-    × (readMessage (0x21 ∷ 0x36 ∷ 1 ∷ 0x98 ∷ []) ≡ Is false 2 (TerminationReject (run 3 1)))
-    × (readMessage (0x31 ∷ 0x35 ∷ 1 ∷ 2 ∷ 3 ∷ 4 ∷ []) ≡ Is false 3 (TerminationRequest reference))
+    × (readMessage Broadcast (0x01 ∷ 0x3A ∷ 0x0D ∷ []) ≡ Is false 0 (SetParameter 13))
+    × (readMessage Broadcast (0x01 ∷ 0x32 ∷ 1 ∷ 2 ∷ 3 ∷ 4 ∷ []) ≡ Is false 0 (Setup reference))
+    × (readMessage Broadcast (0x81 ∷ 0x38 ∷ 1 ∷ 0x9E ∷ 0xA2 ∷ 0xBF ∷ []) ≡ Is true 0 (Status (run 3 1) (Present 2) (Present 15)))
+    × (readMessage Broadcast (0x71 ∷ 0x34 ∷ 1 ∷ 0x90 ∷ []) ≡ Is false 7 (Termination (run 3 1)))
+    × (readMessage Broadcast (0x21 ∷ 0x36 ∷ 1 ∷ 0x98 ∷ []) ≡ Is false 2 (TerminationReject (run 3 1)))
+    × (readMessage Broadcast (0x31 ∷ 0x35 ∷ 1 ∷ 2 ∷ 3 ∷ 4 ∷ []) ≡ Is false 3 (TerminationRequest reference))
 unfolding
     readMessage
+    discriminator
     bodyOf
     connectOf
     getStatusOf
@@ -90,23 +93,24 @@ unfolding
 kinds = (refl, refl, refl, refl, refl, refl, refl, refl, refl)
 
 -- Both sides of what reading draws.
-pub edges : (readMessage (1 ∷ []) ≡ Unreadable TooShort)
-    × (readMessage (2 ∷ 0x39 ∷ []) ≡ Unreadable Discriminator)
-    × (readMessage (1 ∷ 0x37 ∷ []) ≡ Unreadable UnknownType)
-    × (readMessage (1 ∷ 0xB9 ∷ []) ≡ Unreadable UnknownType)
-    × (readMessage (1 ∷ 0x79 ∷ []) ≡ Is false 0 (GetStatus Anonymous))
-    × (readMessage (1 ∷ 0x32 ∷ 1 ∷ 2 ∷ 3 ∷ []) ≡ Unreadable CutShort)
-    × (readMessage (1 ∷ 0x34 ∷ 0 ∷ []) ≡ Unreadable (WrongLength 2))
-    × (readMessage (1 ∷ 0x39 ∷ 0x17 ∷ 1 ∷ 7 ∷ 5 ∷ []) ≡ Unreadable (MustBeKnown 5 5))
-    × (readMessage (1 ∷ 0x39 ∷ 5 ∷ []) ≡ Unreadable (MustBeKnown 2 5))
-    × (readMessage (1 ∷ 0x39 ∷ 0x17 ∷ []) ≡ Is false 0 (GetStatus Anonymous))
-    × (readMessage (1 ∷ 0x39 ∷ 0x20 ∷ 0xFF ∷ 5 ∷ []) ≡ Is false 0 (GetStatus Anonymous))
-    × (readMessage (1 ∷ 0x39 ∷ 0x17 ∷ 0 ∷ 0x17 ∷ 1 ∷ 7 ∷ []) ≡ Is false 0 (GetStatus Anonymous))
-    × (readMessage (1 ∷ 0x38 ∷ 1 ∷ 0x9E ∷ 0xB3 ∷ 0xA2 ∷ 0xA4 ∷ []) ≡ Is false 0 (Status (run 3 1) (Present 2) (Present 3)))
-    × (readMessage (1 ∷ 0x39 ∷ replicate 249 0x80) ≡ Is false 0 (GetStatus Anonymous))
-    × (readMessage (1 ∷ 0x39 ∷ replicate 250 0x80) ≡ TooLong)
+pub edges : (readMessage Broadcast (1 ∷ []) ≡ Unreadable TooShort)
+    × (readMessage Broadcast (2 ∷ 0x39 ∷ []) ≡ Unreadable Discriminator)
+    × (readMessage Broadcast (1 ∷ 0x37 ∷ []) ≡ Unreadable UnknownType)
+    × (readMessage Broadcast (1 ∷ 0xB9 ∷ []) ≡ Unreadable UnknownType)
+    × (readMessage Broadcast (1 ∷ 0x79 ∷ []) ≡ Is false 0 (GetStatus Anonymous))
+    × (readMessage Broadcast (1 ∷ 0x32 ∷ 1 ∷ 2 ∷ 3 ∷ []) ≡ Unreadable CutShort)
+    × (readMessage Broadcast (1 ∷ 0x34 ∷ 0 ∷ []) ≡ Unreadable (WrongLength 2))
+    × (readMessage Broadcast (1 ∷ 0x39 ∷ 0x17 ∷ 1 ∷ 7 ∷ 5 ∷ []) ≡ Unreadable (MustBeKnown 5 5))
+    × (readMessage Broadcast (1 ∷ 0x39 ∷ 5 ∷ []) ≡ Unreadable (MustBeKnown 2 5))
+    × (readMessage Broadcast (1 ∷ 0x39 ∷ 0x17 ∷ []) ≡ Is false 0 (GetStatus Anonymous))
+    × (readMessage Broadcast (1 ∷ 0x39 ∷ 0x20 ∷ 0xFF ∷ 5 ∷ []) ≡ Is false 0 (GetStatus Anonymous))
+    × (readMessage Broadcast (1 ∷ 0x39 ∷ 0x17 ∷ 0 ∷ 0x17 ∷ 1 ∷ 7 ∷ []) ≡ Is false 0 (GetStatus Anonymous))
+    × (readMessage Broadcast (1 ∷ 0x38 ∷ 1 ∷ 0x9E ∷ 0xB3 ∷ 0xA2 ∷ 0xA4 ∷ []) ≡ Is false 0 (Status (run 3 1) (Present 2) (Present 3)))
+    × (readMessage Broadcast (1 ∷ 0x39 ∷ replicate 249 0x80) ≡ Is false 0 (GetStatus Anonymous))
+    × (readMessage Broadcast (1 ∷ 0x39 ∷ replicate 250 0x80) ≡ TooLong)
 unfolding
     readMessage
+    discriminator
     bodyOf
     getStatusOf
     setupOf
@@ -121,3 +125,27 @@ unfolding
     nextElement
     within
 edges = (refl, refl, refl, refl, refl, refl, refl, refl, refl, refl, refl, refl, refl, refl, refl)
+
+-- Group calls: the other discriminator, and a TERMINATION REJECT of exactly four octets of cause, with elements from octet 7 on.
+pub group : (readMessage Group (0x10 ∷ 0x33 ∷ 1 ∷ 2 ∷ 3 ∷ 4 ∷ 0x01 ∷ []) ≡ Is false 1 (Connect reference 1))
+    × (readMessage Group (0x11 ∷ 0x33 ∷ 1 ∷ 2 ∷ 3 ∷ 4 ∷ 0x01 ∷ []) ≡ Unreadable Discriminator)
+    × (readMessage Broadcast (0x10 ∷ 0x33 ∷ 1 ∷ 2 ∷ 3 ∷ 4 ∷ 0x01 ∷ []) ≡ Unreadable Discriminator)
+    × (readMessage Group (0x70 ∷ 0x34 ∷ 1 ∷ 0x90 ∷ []) ≡ Is false 7 (Termination (run 3 1)))
+    × (readMessage Group (0x20 ∷ 0x36 ∷ 0x98 ∷ 0 ∷ 0 ∷ []) ≡ Unreadable CutShort)
+    × (readMessage Group (0x20 ∷ 0x36 ∷ 0x98 ∷ 0 ∷ 0 ∷ 0 ∷ []) ≡ Is false 2 (TerminationReject (run 2 4)))
+    × (readMessage Group (0x20 ∷ 0x36 ∷ 1 ∷ 0x98 ∷ 0 ∷ 0 ∷ 0x80 ∷ []) ≡ Is false 2 (TerminationReject (run 2 4)))
+    × (readMessage Group (0x20 ∷ 0x36 ∷ 1 ∷ 0x98 ∷ 0 ∷ 0 ∷ 0x05 ∷ []) ≡ Unreadable (MustBeKnown 6 5))
+unfolding
+    readMessage
+    discriminator
+    bodyOf
+    connectOf
+    terminationOf
+    terminationRejectOf
+    wholeOf
+    countedAt
+    elementFrom
+    elementAmong
+    nextElement
+    within
+group = (refl, refl, refl, refl, refl, refl, refl, refl)

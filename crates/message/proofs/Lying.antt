@@ -1,9 +1,11 @@
 -- The runs of every message that was read lie within its octets, whatever its transaction value.
 use Prim.Native.Nat.{ℕ, _+_}
-use mathlib.Core.Path.{_≡_, refl}
+use mathlib.Core.Path.{_≡_, refl, ap, _∙_}
 use mathlib.Core.List.{List}
 use mathlib.Core.Bool.{Bool, true}
 use borrow.Author.Tests.{le-leb}
+use Rattle.codes.specs.declared.protocol.Protocol.{Protocol}
+use Rattle.codes.specs.declared.protocol.Protocol.the-variants.{Broadcast, Group}
 use Rattle.octets.specs.declared.Run.{Run}
 use Rattle.element.specs.declared.Found.{Found}
 use Rattle.element.specs.declared.Found.the-variants.{At, Nothing}
@@ -16,8 +18,8 @@ use Rattle.message.specs.declared.Message.{Message}
 use Rattle.message.specs.declared.Message.the-variants.{GetStatus}
 use Rattle.message.specs.declared.Reading.the-variants.{Is as Reads}
 use Rattle.message.specs.Content.{lies, runsLie}
-use Rattle.message.specs.Reading.{ifCounted, identityBehind, identityFound, readMessage}
-use Rattle.message.proofs.Each.{Each, of-read}
+use Rattle.message.specs.Reading.{fourOctets, ifCounted, identityBehind, identityFound, readMessage}
+use Rattle.message.proofs.Each.{RejectLies, Each, of-read}
 
 module _ (s : List ℕ) where
   -- A counted run lies within the octets.
@@ -35,8 +37,13 @@ module _ (s : List ℕ) where
   identity-lies Nothing = refl
   identity-lies (At at identifier) = if-counted (at + 1) (countedAt s (at + 1) 1 8) (counted-told s (at + 1) 1 8)
 
-  each : Each s (λ m. runsLie s m ≡ true)
-  each = record {
+  reject-lies : (protocol : Protocol) (run : Run) → RejectLies protocol s run → lies s run ≡ true
+  unfolding lies
+  reject-lies Broadcast run l = le-leb _ _ (l .fits)
+  reject-lies Group run l = ap (lies s) (l .0) ∙ le-leb _ _ (l .1)
+
+  each : (protocol : Protocol) → Each protocol s (λ m. runsLie s m ≡ true)
+  each protocol = record {
     connect = refl;
     getStatus = identity-lies (elementFrom s 2 0x17 0x17);
     immediateSetup = λ run l. run-lies 7 1 8 run l;
@@ -44,9 +51,9 @@ module _ (s : List ℕ) where
     setup = refl;
     status = λ run l. run-lies 2 1 247 run l;
     termination = λ run l. run-lies 2 1 247 run l;
-    terminationReject = λ run l. run-lies 2 1 247 run l;
+    terminationReject = reject-lies protocol;
     terminationRequest = refl;
   }
 
-  pub read-lies : (flag : Bool) (value : ℕ) (m : Message) → readMessage s ≡ Reads flag value m → runsLie s m ≡ true
-  read-lies = of-read s (λ m. runsLie s m ≡ true) (λ few. each)
+  pub read-lies : (protocol : Protocol) (flag : Bool) (value : ℕ) (m : Message) → readMessage protocol s ≡ Reads flag value m → runsLie s m ≡ true
+  read-lies protocol = of-read protocol s (λ m. runsLie s m ≡ true) (λ few. each protocol)

@@ -14,6 +14,9 @@ use Rattle.element.specs.declared.Counted.{Counted}
 use Rattle.element.specs.declared.Counted.the-variants.{Octets, CutShort as CountedShort, WrongLength as CountedWrong}
 use Rattle.element.specs.Elements.{elementFrom}
 use Rattle.element.specs.Counted.{countedAt}
+use Rattle.codes.specs.declared.protocol.Protocol.{Protocol}
+use Rattle.codes.specs.declared.protocol.Protocol.the-variants.{Broadcast, Group}
+use Rattle.codes.specs.Protocol.{discriminator}
 use Rattle.codes.specs.MessageTypes.{
   IMMEDIATE-SETUP,
   SETUP,
@@ -24,7 +27,6 @@ use Rattle.codes.specs.MessageTypes.{
   STATUS,
   GET-STATUS,
   SET-PARAMETER,
-  discriminator,
 }
 use Rattle.octets.specs.declared.Reference.{Reference}
 use Rattle.message.specs.declared.Classmark.{Classmark}
@@ -164,12 +166,16 @@ terminationBehind s cause = wholeOf s (behind cause) (Termination cause)
 unfoldable pub terminationOf : List ℕ → Body
 terminationOf s = onCounted (place 3) (terminationBehind s) (countedAt s (place 3) 1 247)
 
--- Table 8.8: TERMINATION REJECT. Octet 3 counts the cause, from octet 4 on.
+-- Table 8.8: TERMINATION REJECT. In broadcast calls octet 3 counts the cause, from octet 4 on; in group calls the cause is octets 3 to 6.
 abbrev pub terminationRejectBehind : List ℕ → Run → Body
 terminationRejectBehind s cause = wholeOf s (behind cause) (TerminationReject cause)
 
-unfoldable pub terminationRejectOf : List ℕ → Body
-terminationRejectOf s = onCounted (place 3) (terminationRejectBehind s) (countedAt s (place 3) 1 247)
+abbrev pub fourOctets : Run
+fourOctets = record { start = place 3; count = 4 }
+
+unfoldable pub terminationRejectOf : Protocol → List ℕ → Body
+terminationRejectOf Broadcast s = onCounted (place 3) (terminationRejectBehind s) (countedAt s (place 3) 1 247)
+terminationRejectOf Group s = terminationRejectBehind s fourOctets
 
 -- Table 8.9: TERMINATION REQUEST. Octets 3 to 6 are the reference.
 unfoldable pub terminationRequestOf : List ℕ → Body
@@ -178,21 +184,21 @@ terminationRequestOf s = wholeOf s 6 (TerminationRequest (referenceAt s (place 3
 -- ---- the first two octets
 
 -- 9.3, table 9.1: the message of a type, without bits 7 and 8.
-abbrev pub kinds : List ℕ → List (ℕ × Body)
-kinds s =
+abbrev pub kinds : Protocol → List ℕ → List (ℕ × Body)
+kinds protocol s =
     (IMMEDIATE-SETUP, immediateSetupOf s) ∷
     (SETUP, setupOf s) ∷
     (CONNECT, connectOf s) ∷
     (TERMINATION, terminationOf s) ∷
     (TERMINATION-REQUEST, terminationRequestOf s) ∷
-    (TERMINATION-REJECT, terminationRejectOf s) ∷
+    (TERMINATION-REJECT, terminationRejectOf protocol s) ∷
     (STATUS, statusOf s) ∷
     (GET-STATUS, getStatusOf s) ∷
     (SET-PARAMETER, setParameterOf s) ∷
     []
 
-unfoldable pub bodyOf : List ℕ → ℕ → Body
-bodyOf s kind = rows kind (Wrong UnknownType) (kinds s)
+unfoldable pub bodyOf : Protocol → List ℕ → ℕ → Body
+bodyOf protocol s kind = rows kind (Wrong UnknownType) (kinds protocol s)
 
 abbrev pub readAs : Bool → ℕ → Body → Reading
 readAs flag value (Is message) = Reads flag value message
@@ -200,11 +206,11 @@ readAs flag value (Wrong fault) = Unreadable fault
 
 -- Document 01, "Answer numbers", message reading alone: over 251 octets, else the first fault, else flag, transaction value 0 to 7 and the message.
 -- Octet 1: the discriminator is bits 1 to 4, the transaction value bits 5 to 7, the flag bit 8. Octet 2, the type: bit 8 set is no type, bit 7 is read as anything.
-unfoldable pub readMessage : List ℕ → Reading
-readMessage s =
+unfoldable pub readMessage : Protocol → List ℕ → Reading
+readMessage protocol s =
     cond (ltb 251 (length s)) TooLong
     (cond (ltb (length s) 2) (Unreadable TooShort)
-    (cond (eqb (octet 1 s % 16) discriminator)
+    (cond (eqb (octet 1 s % 16) (discriminator protocol))
     (cond (leb 128 (octet 2 s)) (Unreadable UnknownType)
-    (readAs (leb 128 (octet 1 s)) (octet 1 s / 16 % 8) (bodyOf s (octet 2 s % 64))))
+    (readAs (leb 128 (octet 1 s)) (octet 1 s / 16 % 8) (bodyOf protocol s (octet 2 s % 64))))
     (Unreadable Discriminator)))

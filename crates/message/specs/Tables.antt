@@ -1,10 +1,13 @@
--- GSM 04.69, clause 8: tables 8.1 to 8.9, row by row, and what a row is as octets.
+-- GSM 04.69 and 24.068, clause 8: tables 8.1 to 8.9, row by row, and what a row is as octets. The two draw the same but for one row of table 8.8.
 -- A row names its element in the comment behind it; its format and its length in octets stand as the table has them.
 use Prim.Native.Nat.{ℕ, _+_, _*_, _^_}
 use mathlib.Core.List.{List, [], _∷_, _++_}
 use mathlib.Core.Bool.{Bool, true, false, _&&_}
 use lib.ListN.{length}
 use lib.Dec.{leb, ltb, eqb}
+use Rattle.codes.specs.declared.protocol.Protocol.{Protocol}
+use Rattle.codes.specs.declared.protocol.Protocol.the-variants.{Broadcast, Group}
+use Rattle.codes.specs.Protocol.{discriminator}
 use Rattle.codes.specs.MessageTypes.{
   IMMEDIATE-SETUP,
   SETUP,
@@ -15,7 +18,6 @@ use Rattle.codes.specs.MessageTypes.{
   STATUS,
   GET-STATUS,
   SET-PARAMETER,
-  discriminator,
 }
 use Rattle.message.specs.declared.Half.{Half}
 use Rattle.message.specs.declared.Half.the-variants.{Absent, Present}
@@ -53,20 +55,25 @@ pub data Element : Type 0 where
   formatTV : (identifier : ℕ) (value : Half) → Element  -- identifier in bits 5 to 8, value in bits 1 to 4; optional
   formatTLV : (identifier least most : ℕ) (value : Optional) → Element  -- identifier, length octet and value; optional
 
+-- Reject cause, 9.4.3: GSM 04.69 draws it with a length octet, 24.068 without one and with four octets.
+abbrev pub rejectCause : Protocol → List ℕ → Element
+rejectCause Broadcast cause = formatLV 2 248 cause
+rejectCause Group cause = formatV 4 cause
+
 -- The rows behind the first three.
-unfoldable pub table : Content → List Element
+unfoldable pub table : Protocol → Content → List Element
 -- Table 8.1: CONNECT
-table (connect reference originator) =
+table protocol (connect reference originator) =
     formatV 4 (referenceOctets reference) ∷  -- broadcast call reference, 9.4.1, M
     halves (bits 1 originator)  -- originator indication, 9.4.4, M
     spare ∷  -- spare half octet, 9.4.5, M
     []
 -- Table 8.2: GET STATUS
-table (getStatus identity) =
+table protocol (getStatus identity) =
     formatTLV 0x17 3 10 identity ∷  -- mobile identity, GSM 04.08, 10.5.1.4, O
     []
 -- Table 8.3: IMMEDIATE SETUP
-table (immediateSetup key classmark identity reference) =
+table protocol (immediateSetup key classmark identity reference) =
     halves spare  -- spare half octet, 9.4.5, M
     (bits 3 key) ∷  -- ciphering key sequence number, GSM 04.08, 10.5.1.2, M
     formatLV 4 4 (classmarkOctets classmark) ∷  -- mobile station classmark 2, GSM 04.08, 10.5.1.6, M
@@ -74,30 +81,30 @@ table (immediateSetup key classmark identity reference) =
     formatV 4 (referenceOctets reference) ∷  -- broadcast identity, 9.4.1, M
     []
 -- Table 8.4: SET PARAMETER
-table (setParameter attributes) =
+table protocol (setParameter attributes) =
     halves (bits 4 attributes)  -- state attributes, 9.4.6, M
     spare ∷  -- spare half octet, M
     []
 -- Table 8.5: SETUP
-table (setup reference) =
+table protocol (setup reference) =
     formatV 4 (referenceOctets reference) ∷  -- broadcast identity, 9.4.1, M
     []
 -- Table 8.6: STATUS
-table (status cause state attributes) =
+table protocol (status cause state attributes) =
     formatLV 2 248 cause ∷  -- cause, 9.4.3, M
     formatTV 0xA state ∷  -- call state, 9.4.2, O
     formatTV 0xB attributes ∷  -- state attributes, 9.4.6, O
     []
 -- Table 8.7: TERMINATION
-table (termination cause) =
+table protocol (termination cause) =
     formatLV 2 248 cause ∷  -- cause, 9.4.3, M
     []
 -- Table 8.8: TERMINATION REJECT
-table (terminationReject cause) =
-    formatLV 2 248 cause ∷  -- reject cause, 9.4.3, M
+table protocol (terminationReject cause) =
+    rejectCause protocol cause ∷  -- reject cause, 9.4.3, M
     []
 -- Table 8.9: TERMINATION REQUEST
-table (terminationRequest reference) =
+table protocol (terminationRequest reference) =
     formatV 4 (referenceOctets reference) ∷  -- broadcast call reference, 9.4.1, M
     []
 
@@ -123,8 +130,8 @@ abbrev pub octetOf : Field → Field → ℕ
 octetOf (bits w low) (bits v high) = low + 16 * high
 
 -- The first row and the second: protocol discriminator, 9.1, and transaction identifier, 9.2.
-unfoldable pub headOf : Bool → ℕ → ℕ
-headOf flag value = octetOf (bits 4 discriminator) (bits 4 (transaction flag value))
+unfoldable pub headOf : Protocol → Bool → ℕ → ℕ
+headOf protocol flag value = octetOf (bits 4 (discriminator protocol)) (bits 4 (transaction flag value))
 
 abbrev pub counted : List ℕ → List ℕ
 counted value = length value ∷ value
@@ -144,8 +151,8 @@ drawn [] = []
 drawn (element ∷ more) = octetsOf element ++ drawn more
 
 -- A message as octets.
-unfoldable pub written : Bool → ℕ → Content → List ℕ
-written flag value content = headOf flag value ∷ typeOf content ∷ drawn (table content)
+unfoldable pub written : Protocol → Bool → ℕ → Content → List ℕ
+written protocol flag value content = headOf protocol flag value ∷ typeOf content ∷ drawn (table protocol content)
 
 -- A field that its bits hold.
 abbrev pub fieldFits : Field → Bool
@@ -170,5 +177,5 @@ rowsFit [] = true
 rowsFit (element ∷ more) = elementFits element && rowsFit more
 
 -- Document 01, "Answer numbers": no field beyond the width or length that clauses 8 and 9 draw, transaction value at most 6, at most 251 octets.
-unfoldable pub fits : Bool → ℕ → Content → Bool
-fits flag value content = leb value 6 && (rowsFit (table content) && leb (length (written flag value content)) 251)
+unfoldable pub fits : Protocol → Bool → ℕ → Content → Bool
+fits protocol flag value content = leb value 6 && (rowsFit (table protocol content) && leb (length (written protocol flag value content)) 251)

@@ -2,6 +2,7 @@
 ghost use mathlib.Core.Path.{_≡_};
 ghost use Prim.Native.Nat.{_+_, _≤_};
 ghost use lib.ListN.{length};
+ghost use Rattle.codes.specs.declared.protocol.Protocol.{Protocol};
 ghost use Rattle.message.specs.Reading.{
   referenceAt,
   classmarkAt,
@@ -28,10 +29,12 @@ use crate::Identity;
 use crate::Message;
 use crate::Reference;
 use codes::message_type;
+use codes::protocol::Protocol;
 use element::Counted;
 use element::Found;
 use element::counted_at;
 use element::seek;
+use octets::Run;
 
 // How many octets a mobile identity and a cause have behind their length octet.
 const LEAST: u8 = 1;
@@ -240,9 +243,9 @@ fn read_termination(octets: &[u8]) -> Body
     }
 }
 
-// Table 8.8.
-fn read_termination_reject(octets: &[u8]) -> Body
-    ensures { λ r. ⌜ r ≡ terminationRejectOf (now (octets .entry)) ⌝ }
+// Table 8.8 of GSM 04.69.
+fn read_counted_reject(octets: &[u8]) -> Body
+    ensures { λ r. ⌜ r ≡ terminationRejectOf Protocol.Broadcast (now (octets .entry)) ⌝ }
 {
     match counted_at(octets, 2, LEAST, CAUSE_MOST) {
         Counted::Octets(cause) => {
@@ -251,6 +254,19 @@ fn read_termination_reject(octets: &[u8]) -> Body
         }
         Counted::CutShort => Body::Wrong(Fault::CutShort),
         Counted::WrongLength => Body::Wrong(Fault::WrongLength(2)),
+    }
+}
+
+// Table 8.8.
+fn read_termination_reject(protocol: Protocol, octets: &[u8]) -> Body
+    ensures { λ r. ⌜ r ≡ terminationRejectOf protocol (now (octets .entry)) ⌝ }
+{
+    match protocol {
+        Protocol::Broadcast => read_counted_reject(octets),
+        Protocol::Group => {
+            let cause = Run { start: 2, count: 4 };
+            whole(octets, 6, Message::TerminationReject { cause })
+        }
     }
 }
 
@@ -266,8 +282,8 @@ fn read_termination_request(octets: &[u8]) -> Body
 }
 
 // The message of a type without bits 7 and 8, table 9.1; the ranges are the codes that the table leaves unused.
-pub(crate) fn read_body(octets: &[u8], kind: u8) -> Body
-    ensures { λ r. ⌜ r ≡ bodyOf (now (octets .entry)) kind ⌝ }
+pub(crate) fn read_body(protocol: Protocol, octets: &[u8], kind: u8) -> Body
+    ensures { λ r. ⌜ r ≡ bodyOf protocol (now (octets .entry)) kind ⌝ }
 {
     match kind {
         message_type::IMMEDIATE_SETUP => read_immediate_setup(octets),
@@ -275,7 +291,7 @@ pub(crate) fn read_body(octets: &[u8], kind: u8) -> Body
         message_type::CONNECT => read_connect(octets),
         message_type::TERMINATION => read_termination(octets),
         message_type::TERMINATION_REQUEST => read_termination_request(octets),
-        message_type::TERMINATION_REJECT => read_termination_reject(octets),
+        message_type::TERMINATION_REJECT => read_termination_reject(protocol, octets),
         message_type::STATUS => read_status(octets),
         message_type::GET_STATUS => read_get_status(octets),
         message_type::SET_PARAMETER => read_set_parameter(octets),

@@ -1,8 +1,10 @@
-// The nine messages of broadcast call control, GSM 04.69 clauses 8 and 9, and how they are read. Runs of octets stay in the lent slice.
+// The nine messages of broadcast and group call control, clauses 8 and 9 of GSM 04.69 and 24.068, and how they are read. Runs of octets stay in the lent slice.
 mod kinds;
 
 ghost use mathlib.Core.Path.{_≡_};
 ghost use Rattle.message.specs.Reading.{readMessage};
+use codes::protocol::Protocol;
+use codes::protocol::discriminator;
 use octets::Reference;
 use octets::Run;
 
@@ -95,9 +97,9 @@ pub enum Reading {
     TooLong,
 }
 
-// Reads a message.
-pub fn read(octets: &[u8]) -> Reading
-    ensures { λ r. ⌜ r ≡ readMessage (now (octets .entry)) ⌝ }
+// Reads a message of the protocol.
+pub fn read(protocol: Protocol, octets: &[u8]) -> Reading
+    ensures { λ r. ⌜ r ≡ readMessage protocol (now (octets .entry)) ⌝ }
 {
     if 251 < octets.len() {
         return Reading::TooLong;
@@ -106,14 +108,14 @@ pub fn read(octets: &[u8]) -> Reading
         return Reading::Unreadable(Fault::TooShort);
     }
     let first = octets[0];
-    if first % 16 != 1 {
+    if first % 16 != discriminator(protocol) {
         return Reading::Unreadable(Fault::Discriminator);
     }
     let kind = octets[1];
     if 128 <= kind {
         return Reading::Unreadable(Fault::UnknownType);
     }
-    match kinds::read_body(octets, kind % 64) {
+    match kinds::read_body(protocol, octets, kind % 64) {
         Body::Is(message) => Reading::Is {
             flag: 128 <= first,
             value: first / 16 % 8,

@@ -1,3 +1,4 @@
-// The commands `read` and `write` of the probe, each a module with a function that answers a line's words.
+// The commands `read` and `write` of the probe, and `gread` and `gwrite`, which are the same for group calls: each a module with a function that answers a line's
+// words, given the protocol.
 pub mod read_command;
 pub mod write_command;

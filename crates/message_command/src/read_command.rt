@@ -1,4 +1,5 @@
-// The command `read OCTETS` of the probe: what reading a message comes to, in numbers.
+// The commands `read OCTETS` and `gread OCTETS` of the probe: what reading a message comes to, in numbers.
+use codes::protocol::Protocol;
 use fields::fault_number;
 use fields::malformed;
 use fields::words::octets_word;
@@ -18,6 +19,7 @@ use text::words::finished;
 use text::words::part;
 
 pub fn answer_read(
+    protocol: Protocol,
     line: &[u8],
     words: Words,
     octets: &mut [u8],
@@ -30,11 +32,11 @@ pub fn answer_read(
     if !finished(line, rest) {
         return malformed(buffer, output);
     }
-    say_reading(buffer, output, part(octets, 0, count))
+    say_reading(protocol, buffer, output, part(octets, 0, count))
 }
 
-fn say_reading(buffer: &mut [u8], output: Output, octets: &[u8]) -> Output {
-    match message::read(octets) {
+fn say_reading(protocol: Protocol, buffer: &mut [u8], output: Output, octets: &[u8]) -> Output {
+    match message::read(protocol, octets) {
         Reading::TooLong => say(buffer, output, b"6\n"),
         Reading::Unreadable(fault) => {
             let answer = say(buffer, output, b"13 ");

@@ -1,5 +1,7 @@
-// The command `write BUFLEN FLAG TV KIND FIELDS..` of the probe: what writing a message comes to, in numbers and octets.
+// The commands `write BUFLEN FLAG TV KIND FIELDS..` and `gwrite BUFLEN FLAG TV KIND FIELDS..` of the probe: what writing a message comes to, in numbers and
+// octets.
 ghost use Prim.Native.Nat.{_≤_};
+use codes::protocol::Protocol;
 use fields::malformed;
 use fields::octet_at;
 use fields::words::half_word;
@@ -21,8 +23,9 @@ use text::words::part;
 use text::words::same;
 use writing::Wrote;
 
-// What stands before a message's kind: the lent buffer's length, the flag and the transaction value.
+// What stands before a message's kind: the protocol, the lent buffer's length, the flag and the transaction value.
 struct Head {
+    protocol: Protocol,
     room: u64,
     flag: bool,
     value: u8,
@@ -37,6 +40,7 @@ struct Parsed {
 }
 
 pub fn answer_write(
+    protocol: Protocol,
     line: &[u8],
     words: Words,
     octets: &mut [u8],
@@ -50,6 +54,7 @@ pub fn answer_write(
     let value = small_word(line, behind_flag, 255);
     let behind_value = value.words;
     let head = Head {
+        protocol,
         room: room.value,
         flag: flag.value == 1,
         value: value.value,
@@ -309,9 +314,10 @@ fn write_reply(
     output: Output,
 ) -> Output {
     let room = room_of(head.room, reply.len());
+    let protocol = head.protocol;
     let flag = head.flag;
     let value = head.value;
-    match writing::write(&mut reply[0..room], octets, flag, value, message) {
+    match writing::write(protocol, &mut reply[0..room], octets, flag, value, message) {
         Wrote::Written(count) => say_written(buffer, output, part(reply, 0, count)),
         Wrote::ShortBuffer => say(buffer, output, b"5\n"),
         Wrote::OutOfRange => say(buffer, output, b"4\n"),

@@ -6,6 +6,7 @@ use mathlib.Core.Bool.{Bool, true, false}
 use native.Mathlib.Omega.{arith}
 use lib.Dec.{leb, eqb}
 use borrow.Author.Tests.{ne-eqb}
+use Rattle.codes.specs.declared.protocol.Protocol.{Protocol}
 use Rattle.element.specs.declared.Found.{Found}
 use Rattle.element.specs.declared.Found.the-variants.{At, Nothing as NotFound}
 use Rattle.element.specs.declared.Counted.{Counted}
@@ -91,8 +92,8 @@ module _ (s : List ℕ) where
   identity NotFound = tt
   identity (At at identifier) = identities (at + 1) (countedAt s (at + 1) 1 8) (counted-told s (at + 1) 1 8)
 
-  each : Each s Shown
-  each = record {
+  each : (protocol : Protocol) → Each protocol s Shown
+  each protocol = record {
     connect = tt;
     getStatus = identity (elementFrom s 2 0x17 0x17);
     immediateSetup = λ r l. tt;
@@ -105,5 +106,5 @@ module _ (s : List ℕ) where
   }
 
   -- The numbers of every message that was read, taken back, are that message.
-  pub read-taken-back : (f : Bool) (v : ℕ) (m : Message) → readMessage s ≡ Reads f v m → Means (numbersOf f v m) f v m
-  read-taken-back f v m e = taken-back f v m (of-read s Shown (λ few. each) f v m e)
+  pub read-taken-back : (protocol : Protocol) (f : Bool) (v : ℕ) (m : Message) → readMessage protocol s ≡ Reads f v m → Means (numbersOf f v m) f v m
+  read-taken-back protocol f v m e = taken-back f v m (of-read protocol s Shown (λ few. each protocol) f v m e)

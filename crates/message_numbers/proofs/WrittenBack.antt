@@ -6,6 +6,7 @@ use mathlib.Core.Bool.{Bool, true, false, cond}
 use native.Mathlib.Omega.{arith}
 use lib.ListN.{length, take}
 use lib.Dec.{ltb}
+use Rattle.codes.specs.declared.protocol.Protocol.{Protocol}
 use Rattle.message.specs.declared.Message.{Message}
 use Rattle.message.specs.declared.Reading.{Reading}
 use Rattle.message.specs.declared.Reading.the-variants.{Is as Reads, Unreadable, TooLong}
@@ -37,16 +38,16 @@ use Rattle.message_numbers.proofs.TakenBack.{read-taken-back}
 use Rattle.message_numbers.proofs.Carried.{message-says, says-same}
 
 -- Octets that give the message back that numbers mean give the numbers back.
-module _ (s t : List ℕ) (n : Numbers) (m : Message) (meant : messageOf n ≡ Is m) where
-  read-numbers : (r : Reading) → readMessage t ≡ r → ReadsAs t (flagOf n) (n .value) (contentOf s m) r → GivesNumbers s n t
+module _ (protocol : Protocol) (s t : List ℕ) (n : Numbers) (m : Message) (meant : messageOf n ≡ Is m) where
+  read-numbers : (r : Reading) → readMessage protocol t ≡ r → ReadsAs t (flagOf n) (n .value) (contentOf s m) r → GivesNumbers protocol s n t
   unfolding readNumbers numbersRead
   read-numbers (Reads f v k) e says =
-      let back : Means (numbersOf f v k) f v k = read-taken-back t f v k e in
+      let back : Means (numbersOf f v k) f v k = read-taken-back t protocol f v k e in
       let there = message-says t (numbersOf f v k) k (back .meant) in
       let here = message-says s n m meant in
       let same = says-same t s (numbersOf f v k) n (contentOf t k) (contentOf s m) (says .2) (there .1) (here .1) in
       let flag : numbersOf f v k .flag ≡ n .flag = there .0 ∙ ap flagNumber (back .same-flag ∙ says .0) ∙ sym (here .0) in
-      let read : readNumbers t ≡ numbersRead (Reads f v k) = ap numbersRead e in
+      let read : readNumbers protocol t ≡ numbersRead (Reads f v k) = ap numbersRead e in
       record {
         answer = ap (λ (r : NumbersRead). r .answer) read;
         fault = ap (λ (r : NumbersRead). r .fault) read;
@@ -62,12 +63,12 @@ module _ (s t : List ℕ) (n : Numbers) (m : Message) (meant : messageOf n ≡ I
 refusal : {A : Type 0} (n : ℕ) → 4 ≤ n → n ≡ 0 → A
 refusal n h e = let z : ⊥ = omega arith in elim z [ ]
 
-module _ (d s : List ℕ) (n : Numbers) where
-  by-wrote : (m : Message) → messageOf n ≡ Is m → (w : Wrote) → writeAnswer d s (flagOf n) (n .value) m ≡ w → writtenNumber w ≡ 0
-      → GivesNumbers s n (take (writtenLength w) (writeLeaves d s (flagOf n) (n .value) m))
+module _ (protocol : Protocol) (d s : List ℕ) (n : Numbers) where
+  by-wrote : (m : Message) → messageOf n ≡ Is m → (w : Wrote) → writeAnswer protocol d s (flagOf n) (n .value) m ≡ w → writtenNumber w ≡ 0
+      → GivesNumbers protocol s n (take (writtenLength w) (writeLeaves protocol d s (flagOf n) (n .value) m))
   by-wrote m e (Written k) q h =
-      let t : List ℕ = take k (writeLeaves d s (flagOf n) (n .value) m) in
-      read-numbers s t n m e (readMessage t) refl (written-back d s (flagOf n) (n .value) m k q)
+      let t : List ℕ = take k (writeLeaves protocol d s (flagOf n) (n .value) m) in
+      read-numbers protocol s t n m e (readMessage protocol t) refl (written-back protocol d s (flagOf n) (n .value) m k q)
   by-wrote m e ShortBuffer q h = refusal 5 (omega arith) h
   by-wrote m e OutOfRange q h = refusal 4 (omega arith) h
 
@@ -75,13 +76,13 @@ module _ (d s : List ℕ) (n : Numbers) where
   not-written true h = refusal 5 (omega arith) h
   not-written false h = refusal 4 (omega arith) h
 
-  by-meant : (k : Meant) → messageOf n ≡ k → meantAnswer d s (flagOf n) (n .value) k .answer ≡ 0
-      → GivesNumbers s n (take (meantAnswer d s (flagOf n) (n .value) k .length) (meantLeaves d s (flagOf n) (n .value) k))
+  by-meant : (k : Meant) → messageOf n ≡ k → meantAnswer protocol d s (flagOf n) (n .value) k .answer ≡ 0
+      → GivesNumbers protocol s n (take (meantAnswer protocol d s (flagOf n) (n .value) k .length) (meantLeaves protocol d s (flagOf n) (n .value) k))
   unfolding wroteNumbers notWritten
-  by-meant (Is m) e h = by-wrote m e (writeAnswer d s (flagOf n) (n .value) m) refl h
+  by-meant (Is m) e h = by-wrote m e (writeAnswer protocol d s (flagOf n) (n .value) m) refl h
   by-meant Nothing e h = elim (not-written (ltb (length d) 255) h) [ ]
 
-  pub written-numbers-back : writeNumbersAnswer d s n .answer ≡ 0
-      → GivesNumbers s n (take (writeNumbersAnswer d s n .length) (writeNumbersLeaves d s n))
+  pub written-numbers-back : writeNumbersAnswer protocol d s n .answer ≡ 0
+      → GivesNumbers protocol s n (take (writeNumbersAnswer protocol d s n .length) (writeNumbersLeaves protocol d s n))
   unfolding writeNumbersAnswer writeNumbersLeaves
   written-numbers-back h = by-meant (messageOf n) refl h

@@ -32,6 +32,7 @@ use Rattle.message.specs.declared.Message.the-variants.{
 use Rattle.message.specs.Content.{runOctets, referenceOctets, classmarkOctets}
 use Rattle.message_numbers.specs.declared.Optional.{Optional}
 use Rattle.message_numbers.specs.declared.Place.{Place}
+use Rattle.codes.specs.declared.protocol.Protocol.{Protocol}
 use Rattle.message_numbers.specs.declared.Numbers.{Numbers}
 use Rattle.message_numbers.specs.declared.Meant.the-variants.{Is}
 use Rattle.message_numbers.specs.Numbers.{classmarkOf, referenceOf, runOf, messageOf, flagOf}
@@ -82,10 +83,10 @@ unfoldable pub carried : List ℕ → Numbers → List (List ℕ)
 carried s n = rows (n .kind) [] (carriedRows s n)
 
 -- Reading the octets `t` gives the numbers back whose runs lie in `s`: type, flag, transaction value and each field that the kind carries.
-pub record GivesNumbers (s : List ℕ) (n : Numbers) (t : List ℕ) : Type 0 where
-  pub answer : readNumbers t .answer ≡ 0
-  pub fault : readNumbers t .fault ≡ 0
-  pub same-kind : readNumbers t .message .kind ≡ n .kind
-  pub same-flag : readNumbers t .message .flag ≡ n .flag
-  pub same-value : readNumbers t .message .value ≡ n .value
-  pub same-fields : carried t (readNumbers t .message) ≡ carried s n
+pub record GivesNumbers (protocol : Protocol) (s : List ℕ) (n : Numbers) (t : List ℕ) : Type 0 where
+  pub answer : readNumbers protocol t .answer ≡ 0
+  pub fault : readNumbers protocol t .fault ≡ 0
+  pub same-kind : readNumbers protocol t .message .kind ≡ n .kind
+  pub same-flag : readNumbers protocol t .message .flag ≡ n .flag
+  pub same-value : readNumbers protocol t .message .value ≡ n .value
+  pub same-fields : carried t (readNumbers protocol t .message) ≡ carried s n

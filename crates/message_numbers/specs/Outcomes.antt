@@ -6,6 +6,7 @@ use mathlib.Core.List.{List}
 use mathlib.Core.Bool.{Bool, cond}
 use lib.ListN.{length}
 use lib.Dec.{ltb}
+use Rattle.codes.specs.declared.protocol.Protocol.{Protocol}
 use Rattle.message.specs.declared.Reading.{Reading}
 use Rattle.message.specs.declared.Reading.the-variants.{Is as Reads, Unreadable, TooLong}
 use Rattle.message.specs.Answers.{faultNumber, readingNumber}
@@ -29,8 +30,8 @@ numbersRead (Reads flag value message) = record { answer = readingNumber (Reads 
 numbersRead (Unreadable fault) = refusedWith (readingNumber (Unreadable fault)) (faultNumber fault)
 numbersRead TooLong = refusedWith (readingNumber TooLong) 0
 
-unfoldable pub readNumbers : List ℕ → NumbersRead
-readNumbers s = numbersRead (readMessage s)
+unfoldable pub readNumbers : Protocol → List ℕ → NumbersRead
+readNumbers protocol s = numbersRead (readMessage protocol s)
 
 abbrev pub writtenLength : Wrote → ℕ
 writtenLength (Written count) = count
@@ -45,18 +46,18 @@ wroteNumbers wrote = record { answer = writtenNumber wrote; length = writtenLeng
 unfoldable pub notWritten : ℕ → NumbersWritten
 notWritten room = wroteNumbers (cond (ltb room 255) ShortBuffer OutOfRange)
 
-abbrev pub meantAnswer : List ℕ → List ℕ → Bool → ℕ → Meant → NumbersWritten
-meantAnswer d s flag value (Is message) = wroteNumbers (writeAnswer d s flag value message)
-meantAnswer d s flag value Nothing = notWritten (length d)
+abbrev pub meantAnswer : Protocol → List ℕ → List ℕ → Bool → ℕ → Meant → NumbersWritten
+meantAnswer protocol d s flag value (Is message) = wroteNumbers (writeAnswer protocol d s flag value message)
+meantAnswer protocol d s flag value Nothing = notWritten (length d)
 
-abbrev pub meantLeaves : List ℕ → List ℕ → Bool → ℕ → Meant → List ℕ
-meantLeaves d s flag value (Is message) = writeLeaves d s flag value message
-meantLeaves d s flag value Nothing = d
+abbrev pub meantLeaves : Protocol → List ℕ → List ℕ → Bool → ℕ → Meant → List ℕ
+meantLeaves protocol d s flag value (Is message) = writeLeaves protocol d s flag value message
+meantLeaves protocol d s flag value Nothing = d
 
 -- The answer, where the buffer holds `d` and the runs lie in `s`.
-unfoldable pub writeNumbersAnswer : List ℕ → List ℕ → Numbers → NumbersWritten
-writeNumbersAnswer d s n = meantAnswer d s (flagOf n) (n .value) (messageOf n)
+unfoldable pub writeNumbersAnswer : Protocol → List ℕ → List ℕ → Numbers → NumbersWritten
+writeNumbersAnswer protocol d s n = meantAnswer protocol d s (flagOf n) (n .value) (messageOf n)
 
 -- The buffer afterwards.
-unfoldable pub writeNumbersLeaves : List ℕ → List ℕ → Numbers → List ℕ
-writeNumbersLeaves d s n = meantLeaves d s (flagOf n) (n .value) (messageOf n)
+unfoldable pub writeNumbersLeaves : Protocol → List ℕ → List ℕ → Numbers → List ℕ
+writeNumbersLeaves protocol d s n = meantLeaves protocol d s (flagOf n) (n .value) (messageOf n)

@@ -13,6 +13,7 @@ ghost use Rattle.message_numbers.specs.Outcomes.{
   writeNumbersLeaves,
 };
 use back::message_of;
+use codes::protocol::Protocol;
 use kinds::numbers_of;
 use message::Fault;
 use message::Message;
@@ -114,11 +115,11 @@ fn refused_with(answer: u32, fault: u32) -> NumbersRead
     }
 }
 
-// Reads a message.
-pub fn read(octets: &[u8]) -> NumbersRead
-    ensures { λ r. ⌜ r ≡ readNumbers (now (octets .entry)) ⌝ }
+// Reads a message of the protocol.
+pub fn read(protocol: Protocol, octets: &[u8]) -> NumbersRead
+    ensures { λ r. ⌜ r ≡ readNumbers protocol (now (octets .entry)) ⌝ }
 {
-    match message::read(octets) {
+    match message::read(protocol, octets) {
         Reading::Is {
             flag,
             value,
@@ -167,14 +168,26 @@ fn not_written(room: usize) -> NumbersWritten
 }
 
 // Writes the message over the start of `buffer`. Its runs lie in `source`.
-pub fn write(buffer: &mut [u8], source: &[u8], numbers: Numbers) -> NumbersWritten
-    ensures { λ r. ⌜ r ≡ writeNumbersAnswer (now (buffer .entry)) (now (source .entry)) numbers ⌝ }
-    ensures { λ _. ⌜ now (buffer .exit) ≡ writeNumbersLeaves (now (buffer .entry)) (now (source .entry)) numbers ⌝ }
+pub fn write(
+    protocol: Protocol,
+    buffer: &mut [u8],
+    source: &[u8],
+    numbers: Numbers,
+) -> NumbersWritten
+    ensures { λ r. ⌜ r ≡ writeNumbersAnswer protocol (now (buffer .entry)) (now (source .entry)) numbers ⌝ }
+    ensures { λ _. ⌜ now (buffer .exit) ≡ writeNumbersLeaves protocol (now (buffer .entry)) (now (source .entry)) numbers ⌝ }
 {
     let flag = numbers.flag == 1;
     let value = numbers.value;
     match message_of(numbers) {
-        Meant::Is(message) => wrote_numbers(writing::write(buffer, source, flag, value, message)),
+        Meant::Is(message) => wrote_numbers(writing::write(
+            protocol,
+            buffer,
+            source,
+            flag,
+            value,
+            message,
+        )),
         Meant::Nothing => not_written(buffer.len()),
     }
 }

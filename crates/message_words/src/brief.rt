@@ -1,6 +1,7 @@
 // A message within a line: its kind, its transaction and its main fields.
 use crate::faults::tell_fault;
 use codes::attributes::parameters_of;
+use codes::protocol::Protocol;
 use codes::state::CallState;
 use codes::state::call_state_of;
 use fields::fault_number;
@@ -21,16 +22,16 @@ use saying::tell_number;
 use saying::tell_place;
 use text::words::part;
 
-// Tells a message, without a line end.
-pub fn tell_briefly(octets: &[u8]) {
-    match message::read(octets) {
+// Tells a message of a call of this protocol, without a line end.
+pub fn tell_briefly(protocol: Protocol, octets: &[u8]) {
+    match message::read(protocol, octets) {
         Reading::TooLong => tell_too_long(octets),
-        Reading::Unreadable(fault) => tell_unreadable(octets, fault),
+        Reading::Unreadable(fault) => tell_unreadable(protocol, octets, fault),
         Reading::Is {
             flag,
             value,
             message,
-        } => tell_message(octets, flag, value, message),
+        } => tell_message(protocol, octets, flag, value, message),
     }
 }
 
@@ -40,19 +41,19 @@ fn tell_too_long(octets: &[u8]) {
     tell(b" octets, and a message may have at most 251");
 }
 
-fn tell_unreadable(octets: &[u8], fault: Fault) {
+fn tell_unreadable(protocol: Protocol, octets: &[u8], fault: Fault) {
     tell(b"unreadable (answer 13, fault ");
     tell_number(fault_number(fault));
     tell(b"): ");
-    tell_fault(octets, fault);
+    tell_fault(protocol, octets, fault);
 }
 
-fn tell_message(octets: &[u8], flag: bool, value: u8, message: Message) {
+fn tell_message(protocol: Protocol, octets: &[u8], flag: bool, value: u8, message: Message) {
     tell_kind(octet_at(octets, 1) % 64);
     tell(b", transaction value ");
     tell_number(value);
     tell_flag(flag);
-    tell_fields(octets, message);
+    tell_fields(protocol, octets, message);
 }
 
 fn tell_flag(flag: bool) {
@@ -63,7 +64,7 @@ fn tell_flag(flag: bool) {
     tell(b" flag 0");
 }
 
-fn tell_fields(octets: &[u8], message: Message) {
+fn tell_fields(protocol: Protocol, octets: &[u8], message: Message) {
     match message {
         Message::Connect {
             reference,
@@ -82,7 +83,7 @@ fn tell_fields(octets: &[u8], message: Message) {
             cause,
             state,
             attributes,
-        } => tell_status(octets, cause, state, attributes),
+        } => tell_status(protocol, octets, cause, state, attributes),
         Message::Termination { cause } => tell_cause_part(octets, cause),
         Message::TerminationReject { cause } => tell_cause_part(octets, cause),
         Message::TerminationRequest { reference } => tell_reference(reference),
@@ -113,11 +114,11 @@ fn tell_immediate_setup(octets: &[u8], key: u8, identity: Run, reference: Refere
     tell_reference(reference);
 }
 
-fn tell_status(octets: &[u8], cause: Run, state: Half, attributes: Half) {
+fn tell_status(protocol: Protocol, octets: &[u8], cause: Run, state: Half, attributes: Half) {
     tell_cause_part(octets, cause);
     match state {
         Half::Absent => tell(b", no call state"),
-        Half::Present(code) => tell_call_state(code),
+        Half::Present(code) => tell_call_state(protocol, code),
     }
     match attributes {
         Half::Absent => tell(b", no state attributes"),
@@ -167,10 +168,10 @@ fn tell_first_part(first: u8) {
     tell(b")");
 }
 
-fn tell_call_state(code: u8) {
+fn tell_call_state(protocol: Protocol, code: u8) {
     tell(b", call state ");
-    match call_state_of(code) {
-        CallState::Is(state) => tell_state(state),
+    match call_state_of(protocol, code) {
+        CallState::Is(state) => tell_state(protocol, state),
         CallState::Reserved => tell_reserved(code),
     }
 }

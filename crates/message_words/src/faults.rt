@@ -1,4 +1,6 @@
 // Why a message can't be read, with the octet that is at fault, within a line.
+use codes::protocol::Protocol;
+use codes::protocol::discriminator;
 use fields::octet_at;
 use message::Fault;
 use saying::describe::tell_element;
@@ -8,10 +10,10 @@ use saying::tell_number;
 use saying::tell_octet;
 use saying::tell_place;
 
-pub(crate) fn tell_fault(octets: &[u8], fault: Fault) {
+pub(crate) fn tell_fault(protocol: Protocol, octets: &[u8], fault: Fault) {
     match fault {
         Fault::TooShort => tell_missing(octets, b" is missing: a message has at least 2 octets"),
-        Fault::Discriminator => tell_other_protocol(octet_at(octets, 0)),
+        Fault::Discriminator => tell_other_protocol(protocol, octet_at(octets, 0)),
         Fault::UnknownType => tell_unknown_type(octet_at(octets, 1)),
         Fault::CutShort => tell_missing(octets, b" is missing: the message is cut short"),
         Fault::WrongLength(place) => tell_wrong_length(place, octet_at(octets, place)),
@@ -26,10 +28,14 @@ fn tell_missing(octets: &[u8], why: &[u8]) {
     tell(why);
 }
 
-fn tell_other_protocol(first: u8) {
+fn tell_other_protocol(protocol: Protocol, first: u8) {
     tell(b"octet 1: protocol discriminator ");
     tell_number(first % 16);
-    tell(b", broadcast call control has 1");
+    match protocol {
+        Protocol::Broadcast => tell(b", broadcast call control has "),
+        Protocol::Group => tell(b", group call control has "),
+    }
+    tell_number(discriminator(protocol));
 }
 
 fn tell_unknown_type(second: u8) {

@@ -7,6 +7,8 @@ ghost use Prim.Native.Nat.{_≤_, _<_};
 ghost use lib.ListN.{length};
 pub use brief::tell_briefly;
 use codes::message_type;
+use codes::protocol::Protocol;
+use codes::protocol::discriminator;
 use element::Counted;
 use element::Found;
 use element::counted_at;
@@ -31,27 +33,44 @@ use saying::tell_octet;
 use saying::tell_place;
 use text::words::part;
 
-// Takes a message apart, and answers the verdict.
+// Takes a message apart, and answers the verdict. Its own discriminator says of which protocol it is.
 pub fn tell_apart(octets: &[u8]) -> u8 {
-    match message::read(octets) {
+    let protocol = protocol_of(octet_at(octets, 0));
+    match message::read(protocol, octets) {
         Reading::TooLong => tell_too_long(octets),
-        Reading::Unreadable(fault) => tell_unreadable(octets, fault),
+        Reading::Unreadable(fault) => tell_unreadable(protocol, octets, fault),
         Reading::Is {
             flag,
             value,
             message,
-        } => tell_message(octets, flag, value, message),
+        } => tell_message(protocol, octets, flag, value, message),
     }
 }
 
-// The summary: kind, direction, transaction, length.
-fn tell_summary(octets: &[u8], flag: bool, value: u8) {
+// The protocol of a message that begins with this octet: group calls have their own discriminator, any other is taken for a broadcast call's.
+fn protocol_of(first: u8) -> Protocol {
+    if first % 16 == discriminator(Protocol::Group) {
+        return Protocol::Group;
+    }
+    Protocol::Broadcast
+}
+
+// The summary: protocol, where it is not broadcast, kind, direction, transaction, length.
+fn tell_summary(protocol: Protocol, octets: &[u8], flag: bool, value: u8) {
+    tell_protocol(protocol);
     tell_kind(octet_at(octets, 1) % 64);
     tell(b", transaction value ");
     tell_number(value);
     tell_flag(flag);
     tell_place(octets.len());
     tell(b" octets\n");
+}
+
+fn tell_protocol(protocol: Protocol) {
+    match protocol {
+        Protocol::Broadcast => (),
+        Protocol::Group => tell(b"group call: "),
+    }
 }
 
 fn tell_flag(flag: bool) {
@@ -62,8 +81,8 @@ fn tell_flag(flag: bool) {
     tell(b", flag 0, ");
 }
 
-fn tell_message(octets: &[u8], flag: bool, value: u8, message: Message) -> u8 {
-    tell_summary(octets, flag, value);
+fn tell_message(protocol: Protocol, octets: &[u8], flag: bool, value: u8, message: Message) -> u8 {
+    tell_summary(protocol, octets, flag, value);
     tell_heads(octets);
     tell_fields(octets, message);
     0
@@ -114,11 +133,11 @@ fn tell_too_long(octets: &[u8]) -> u8 {
     1
 }
 
-fn tell_unreadable(octets: &[u8], fault: Fault) -> u8 {
+fn tell_unreadable(protocol: Protocol, octets: &[u8], fault: Fault) -> u8 {
     tell(b"unreadable (answer 13, fault ");
     tell_number(fault_number(fault));
     tell(b"): ");
-    tell_fault(octets, fault);
+    tell_fault(protocol, octets, fault);
     tell(b"\n");
     tell_heads(octets);
     1
@@ -224,19 +243,23 @@ fn tell_immediate_setup(octets: &[u8], key: u8, identity: Run) {
     );
 }
 
-// STATUS, TERMINATION and TERMINATION REJECT: the cause's length octet, its first part and the diagnostics behind that.
+// STATUS, TERMINATION and TERMINATION REJECT: the cause's length octet, its first part and the diagnostics behind that. A cause that begins with octet 3 has no
+// length octet.
 fn tell_caused(octets: &[u8], cause: Run, kind: u8) {
     let start = cause.start;
     let count = cause.count;
-    tell_length(2, count, b"length of the cause ");
-    tell_cause_part(octet_at(octets, start));
-    tell_behind_cause(octets, std::num::wrapping_add_usize(start, 1), count);
+    if start != 2 {
+        tell_length(2, count, b"length of the cause ");
+    }
+    tell_cause_part(start, octet_at(octets, start));
+    tell_behind_cause(octets, start, count);
     tell_optional(octets, std::num::wrapping_add_usize(start, count), kind);
 }
 
 // Bit 8 set ends the cause parts; where another part follows, the cause is unspecific (9.4.3).
-fn tell_cause_part(first: u8) {
-    tell(b"octet 4: cause ");
+fn tell_cause_part(place: usize, first: u8) {
+    tell_places(place, 1);
+    tell(b"cause ");
     tell_number(first % 128);
     tell(b", ");
     tell_cause(first);
@@ -246,18 +269,19 @@ fn tell_cause_part(first: u8) {
     tell(b"\n");
 }
 
-// What stands behind the first cause part. `start` is its place, `count` the count of the whole cause.
+// What stands behind the first cause part. `start` is the place of the whole cause, `count` its count.
 fn tell_behind_cause(octets: &[u8], start: usize, count: usize) {
+    let behind = std::num::wrapping_add_usize(start, 1);
     if count < 2 {
         return;
     }
-    if 128 <= octet_at(octets, 3) {
-        tell_run(octets, start, count - 1, b"diagnostics ");
+    if 128 <= octet_at(octets, start) {
+        tell_run(octets, behind, count - 1, b"diagnostics ");
         return;
     }
     tell_run(
         octets,
-        start,
+        behind,
         count - 1,
         b"further cause parts and diagnostics ",
     );
@@ -316,7 +340,7 @@ fn tell_one(octets: &[u8], from: usize, at: usize, kind: u8) {
         return;
     }
     if (kind == message_type::STATUS) & is_first(octets, from, at, 0xa0, 0xaf) {
-        tell_call_state(identifier % 16);
+        tell_call_state(protocol_of(octet_at(octets, 0)), identifier % 16);
         return;
     }
     if (kind == message_type::STATUS) & is_first(octets, from, at, 0xb0, 0xbf) {

@@ -1,4 +1,5 @@
-// One line of the line protocol. A further command is a crate of its own with a function of the same shape as `answer_read`, and a test here.
+// One line of the line protocol. A further command is a crate of its own with a function of the same shape as `answer_step`, and a test here.
+use codes::protocol::Protocol;
 use fields::malformed;
 use judge_command::answer_judge;
 use message_command::read_command::answer_read;
@@ -11,6 +12,7 @@ use text::words::Words;
 use text::words::next_word;
 use text::words::part;
 use text::words::same;
+use version::Table;
 
 // Answers a line. `octets` is lent for the octets that its words spell.
 pub(crate) fn answer_line(
@@ -48,6 +50,18 @@ fn command_of(name: &[u8]) -> u8 {
     if same(name, b"record") {
         return 6;
     }
+    if same(name, b"gread") {
+        return 7;
+    }
+    if same(name, b"gwrite") {
+        return 8;
+    }
+    if same(name, b"gstep") {
+        return 9;
+    }
+    if same(name, b"grecord") {
+        return 10;
+    }
     0
 }
 
@@ -60,12 +74,16 @@ fn answer_command(
     output: Output,
 ) -> Output {
     match command {
-        1 => answer_read(line, rest, octets, buffer, output),
-        2 => answer_write(line, rest, octets, buffer, output),
-        3 => answer_step(line, rest, octets, buffer, output),
+        1 => answer_read(Protocol::Broadcast, line, rest, octets, buffer, output),
+        2 => answer_write(Protocol::Broadcast, line, rest, octets, buffer, output),
+        3 => answer_step(version::NEWEST, line, rest, octets, buffer, output),
         4 => answer_settings(line, rest, octets, buffer, output),
         5 => answer_judge(line, rest, octets, buffer, output),
-        6 => answer_record(line, rest, octets, buffer, output),
+        6 => answer_record(version::NEWEST, line, rest, octets, buffer, output),
+        7 => answer_read(Protocol::Group, line, rest, octets, buffer, output),
+        8 => answer_write(Protocol::Group, line, rest, octets, buffer, output),
+        9 => answer_step(Table::Group, line, rest, octets, buffer, output),
+        10 => answer_record(Table::Group, line, rest, octets, buffer, output),
         _ => malformed(buffer, output),
     }
 }

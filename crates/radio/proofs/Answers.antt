@@ -1,6 +1,6 @@
 -- What a step's answer says of all that is lent, and that a fit context stays fit.
 use Prim.Native.Nat.{ℕ, _≤_}
-use mathlib.Core.Path.{_≡_, refl}
+use mathlib.Core.Path.{_≡_, refl, ap}
 use mathlib.Core.List.{List, []}
 use mathlib.Core.Bool.{true}
 use native.Mathlib.Omega.{arith}
@@ -8,36 +8,36 @@ use lib.ListN.{length}
 use borrow.Author.Tests.{leb-true}
 use Rattle.codes.specs.declared.state.State.the-variants.{U0}
 use Rattle.version.specs.declared.Table.{Table}
+use Rattle.version.specs.Version.{protocolOf, greatestActions}
 use Rattle.context.specs.declared.Context.{Context}
 use Rattle.context.specs.Context.{cleared}
 use Rattle.fitness.specs.Tables.{fitOf}
 use Rattle.fitness.proofs.Tables.{fit-u0, fit-value}
-use Rattle.transitions.specs.declared.Send.{Send}
-use Rattle.transitions.specs.declared.Send.the-variants.{Nothing}
 use Rattle.call.specs.declared.Settled.{Settled}
 use Rattle.call.proofs.Answers.{Right, settled-right}
 use Rattle.reply.specs.declared.Own.{Own}
-use Rattle.reply.specs.Reply.{replyOf}
-use Rattle.reply.proofs.Fits.{reply-short}
+use Rattle.codes.specs.declared.protocol.Protocol.{Protocol}
+use Rattle.call.specs.declared.Sent.{Sent}
+use Rattle.reply.proofs.Fits.{reply-short, nothing-sent}
 use Rattle.radio.specs.declared.Happened.{Happened}
 use Rattle.radio.specs.Step.{dueTo, reactedTo, Reaction, refused, reacted, stepOf}
 use Rattle.radio.proofs.Range.{refused-most, refused-not-1}
-use Rattle.radio.proofs.Reacting.{of-step, react-fit}
+use Rattle.radio.proofs.Reacting.{of-step, react-fit, react-orderly}
 
 -- What a reaction's answer says: it is a number of the table, 0 to 7; any but 0 keeps the context and has no actions; any but 0 and 2 writes nothing.
--- Its actions are at most 63. Answer 1 has a reason of 1 to 6 beside it, and every other answer 0.
-pub record Honest (x : Context) (r : Reaction) : Type 0 where
+-- Its actions are at most the table's sum. Answer 1 has a reason of 1 to 6 beside it, and every other answer 0.
+pub record Honest (most : ℕ) (x : Context) (r : Reaction) : Type 0 where
   pub numbered : r .answer ≤ 7
   pub kept : (r .answer ≡ 0 → ⊥) → r .context ≡ x
   pub still : (r .answer ≡ 0 → ⊥) → r .actions ≡ 0
   pub silent : (r .answer ≡ 0 → ⊥) → (r .answer ≡ 2 → ⊥) → r .reply ≡ []
-  pub few : r .actions ≤ 63
+  pub few : r .actions ≤ most
   pub told : r .answer ≡ 1 → (1 ≤ r .reason) × (r .reason ≤ 6)
   pub untold : (r .answer ≡ 1 → ⊥) → r .reason ≡ 0
 
-refused-honest : (x : Context) (answer : ℕ) → answer ≤ 7 → (answer ≡ 1 → ⊥) → Honest x (refused answer x)
-refused-honest x answer most other = record {
-  numbered = most;
+refused-honest : (most : ℕ) (x : Context) (answer : ℕ) → answer ≤ 7 → (answer ≡ 1 → ⊥) → Honest most x (refused answer x)
+refused-honest most x answer within other = record {
+  numbered = within;
   kept = λ n. refl;
   still = λ n. refl;
   silent = λ n m. refl;
@@ -46,16 +46,12 @@ refused-honest x answer most other = record {
   untold = λ n. refl;
 }
 
-unsent : (own : Own) (identity s : List ℕ) (x : Context) (sends : Send) → sends ≡ Nothing → replyOf own identity s x sends ≡ []
-unfolding replyOf
-unsent own identity s x sends e = rw e
-
-reacted-honest : (own : Own) (identity s : List ℕ) (x : Context) (t : Settled) → Right 63 x t → Honest x (reacted own identity s t)
-reacted-honest own identity s x t r = record {
+reacted-honest : (protocol : Protocol) (own : Own) (identity s : List ℕ) (most : ℕ) (x : Context) (t : Settled) → Right most x t → Honest most x (reacted protocol own identity s t)
+reacted-honest protocol own identity s most x t r = record {
   numbered = omega (arith, r .numbered);
   kept = r .kept;
   still = r .still;
-  silent = λ n m. unsent own identity s (t .context) (t .sends) (r .silent n m);
+  silent = λ n m. nothing-sent protocol own identity s (t .context) (t .sends) (t .sent) (r .silent n m) (ap (λ (k : Sent). k .status) (r .unsent n)) (ap (λ (k : Sent). k .request) (r .unsent n));
   few = r .few;
   told = r .told;
   untold = r .untold;
@@ -63,15 +59,15 @@ reacted-honest own identity s x t r = record {
 
 module _ (table : Table) where
   -- Whatever is due keeps what the answers promise.
-  pub react-right : (identity : List ℕ) (x : Context) (h : Happened) (s : List ℕ) → Right 63 x (reactedTo table identity x h s)
+  pub react-right : (identity : List ℕ) (x : Context) (h : Happened) (s : List ℕ) → Right (greatestActions table) x (reactedTo table identity x h s)
   unfolding reactedTo
   react-right identity x h s = settled-right table x (dueTo table identity x h s)
 
   -- Every call is answered 0 to 7. Answers 1 and 3 to 7 change nothing lent, and 2 keeps the context.
-  pub step-honest : (own : Own) (identity : List ℕ) (room : ℕ) (x : Context) (h : Happened) (s : List ℕ) → Honest x (stepOf table own identity room x h s)
+  pub step-honest : (own : Own) (identity : List ℕ) (room : ℕ) (x : Context) (h : Happened) (s : List ℕ) → Honest (greatestActions table) x (stepOf table own identity room x h s)
   step-honest own identity room x h s =
-      of-step table own identity room x h s (Honest x) (refused-honest x _ (refused-most table x (own .key) (length identity) h (length s) room) (refused-not-1 table x (own .key) (length identity) h (length s) room))
-      (λ o. reacted-honest own identity s x (reactedTo table identity x h s) (react-right identity x h s))
+      of-step table own identity room x h s (Honest (greatestActions table) x) (refused-honest (greatestActions table) x _ (refused-most table x (own .key) (length identity) h (length s) room) (refused-not-1 table x (own .key) (length identity) h (length s) room))
+      (λ o. reacted-honest (protocolOf table) own identity s (greatestActions table) x (reactedTo table identity x h s) (react-right identity x h s))
 
   -- A step from a fit context ends in a fit one.
   pub step-keeps-fit : (own : Own) (identity : List ℕ) (room : ℕ) (x : Context) (h : Happened) (s : List ℕ) → fitOf table x ≡ true
@@ -93,4 +89,4 @@ module _ (table : Table) where
       of-step table own identity room x h s Short (omega arith)
       (λ o.
       let t : Settled = reactedTo table identity x h s in
-      reply-short (t .context) (leb-true _ _ (fit-value table (t .context) (react-fit table identity x h s (own .key) (o .fit) (o .range)))) own identity s (t .sends) (o .known) (o .least) (o .most))
+      reply-short (protocolOf table) (t .context) (leb-true _ _ (fit-value table (t .context) (react-fit table identity x h s (own .key) (o .fit) (o .range)))) own identity s (t .sends) (t .sent) (o .known) (o .least) (o .most) (react-orderly table identity x h s (o .fit)))

@@ -9,7 +9,7 @@ use lib.ListN.{length}
 use borrow.Author.Tests.{ltb-false, eqb-false, eqb-true, not-false, le-leb, le-ltb}
 use Rattle.octets.proofs.Choice.{never}
 use Rattle.version.specs.declared.Table.{Table}
-use Rattle.version.specs.Version.{greatestEvent}
+use Rattle.version.specs.Version.{hasEvent}
 use Rattle.context.specs.declared.Context.{Context}
 use Rattle.fitness.specs.Tables.{fitOf}
 use Rattle.step_arguments.specs.Arguments.{settingsOut, outOfRange, argumentRefusal}
@@ -47,12 +47,12 @@ module _ (table : Table) where
     pub least : 1 ≤ identity
     pub most : identity ≤ 8
     pub short : eqb (h .number) 18 && ltb 251 octets ≡ false
-    pub range : outOfRange (greatestEvent table) key identity (h .number) (h .value) (h .mode) ≡ false
+    pub range : outOfRange (hasEvent table (h .number)) key identity (h .number) (h .value) (h .mode) ≡ false
 
   pub in-range : (x : Context) (key identity : ℕ) (h : Happened) (octets room : ℕ) → refusalOf table x key identity h octets room ≡ 0 → InRange x key identity h octets room
   unfolding refusalOf fitnessRefusal argumentRefusal outOfRange settingsOut
   in-range x key identity h octets room e =
-      let p = chosen (not (fitOf table x)) (ltb room 255) (eqb (h .number) 18 && ltb 251 octets) (outOfRange (greatestEvent table) key identity (h .number) (h .value) (h .mode)) e in
+      let p = chosen (not (fitOf table x)) (ltb room 255) (eqb (h .number) 18 && ltb 251 octets) (outOfRange (hasEvent table (h .number)) key identity (h .number) (h .value) (h .mode)) e in
       let o = p .1 .1 .1 in
       let settings = neither-first (settingsOut key identity) _ o in
       let r = neither-second (ltb 7 key) _ settings in
@@ -69,7 +69,7 @@ module _ (table : Table) where
 
   -- The other way round: a step that passes each test is not refused.
   pub passed : (x : Context) (key identity : ℕ) (h : Happened) (octets room : ℕ) → fitOf table x ≡ true → 255 ≤ room → eqb (h .number) 18 && ltb 251 octets ≡ false
-      → outOfRange (greatestEvent table) key identity (h .number) (h .value) (h .mode) ≡ false → refusalOf table x key identity h octets room ≡ 0
+      → outOfRange (hasEvent table (h .number)) key identity (h .number) (h .value) (h .mode) ≡ false → refusalOf table x key identity h octets room ≡ 0
   unfolding refusalOf fitnessRefusal argumentRefusal
   passed x key identity h octets room f r o g = rw (f, le-ltb room 255 r, o, g)
 
@@ -77,7 +77,7 @@ module _ (table : Table) where
   pub refused-over : (x : Context) (key identity : ℕ) (h : Happened) (octets room : ℕ) → (refusalOf table x key identity h octets room ≡ 0 → ⊥)
       → 3 < (refusalOf table) x key identity h octets room
   unfolding refusalOf fitnessRefusal argumentRefusal
-  refused-over x key identity h octets room = go (not (fitOf table x)) (ltb room 255) (eqb (h .number) 18 && ltb 251 octets) (outOfRange (greatestEvent table) key identity (h .number) (h .value) (h .mode))
+  refused-over x key identity h octets room = go (not (fitOf table x)) (ltb room 255) (eqb (h .number) 18 && ltb 251 octets) (outOfRange (hasEvent table (h .number)) key identity (h .number) (h .value) (h .mode))
     where
       go : (a b c d : Bool) → (byTests a b c d ≡ 0 → ⊥) → 3 < byTests a b c d
       go true b c d n = omega arith
@@ -95,7 +95,7 @@ module _ (table : Table) where
 
   pub refused-most : (x : Context) (key identity : ℕ) (h : Happened) (octets room : ℕ) → refusalOf table x key identity h octets room ≤ 7
   unfolding refusalOf fitnessRefusal argumentRefusal
-  refused-most x key identity h octets room = go (not (fitOf table x)) (ltb room 255) (eqb (h .number) 18 && ltb 251 octets) (outOfRange (greatestEvent table) key identity (h .number) (h .value) (h .mode))
+  refused-most x key identity h octets room = go (not (fitOf table x)) (ltb room 255) (eqb (h .number) 18 && ltb 251 octets) (outOfRange (hasEvent table (h .number)) key identity (h .number) (h .value) (h .mode))
     where
       go : (a b c d : Bool) → byTests a b c d ≤ 7
       go true b c d = omega arith
@@ -105,23 +105,18 @@ module _ (table : Table) where
       go false false false false = omega arith
 
 -- What the tests of range say of an event that passes them.
-module _ (greatest key identity : ℕ) (h : Happened) (e : outOfRange greatest key identity (h .number) (h .value) (h .mode) ≡ false) where
-  event-tests : (eqb (h .number) 0 || ltb greatest (h .number))
+module _ (known : Bool) (key identity : ℕ) (h : Happened) (e : outOfRange known key identity (h .number) (h .value) (h .mode) ≡ false) where
+  event-tests : not known
       || (eqb (h .number) 18 && ltb 1 (h .mode) || (eqb (h .number) 1 || (eqb (h .number) 2 || eqb (h .number) 10)) && ltb 6 (h .value)) ≡ false
   unfolding outOfRange
   event-tests = neither-second (settingsOut key identity) _ e
 
   data-tests : eqb (h .number) 18 && ltb 1 (h .mode) || (eqb (h .number) 1 || (eqb (h .number) 2 || eqb (h .number) 10)) && ltb 6 (h .value) ≡ false
-  data-tests = neither-second (eqb (h .number) 0 || ltb greatest (h .number)) _ event-tests
+  data-tests = neither-second (not known) _ event-tests
 
-  -- Its number is 1 to the greatest.
-  pub number-least : 1 ≤ h .number
-  number-least =
-      let n : h .number ≡ 0 → ⊥ = eqb-false _ 0 (neither-first (eqb (h .number) 0) _ (neither-first (eqb (h .number) 0 || ltb greatest (h .number)) _ event-tests)) in
-      positive (h .number) n
-
-  pub number-most : h .number ≤ greatest
-  number-most = ltb-false greatest _ (neither-second (eqb (h .number) 0) _ (neither-first (eqb (h .number) 0 || ltb greatest (h .number)) _ event-tests))
+  -- The table has it.
+  pub number-known : known ≡ true
+  number-known = not-false known (neither-first (not known) _ event-tests)
 
   -- The mode of a message received is 0 or 1.
   pub mode-most : eqb (h .number) 18 ≡ true → h .mode ≤ 1

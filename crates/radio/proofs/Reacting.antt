@@ -1,31 +1,41 @@
 -- What an event in range comes to: that a fit context stays fit, and the two ways of the step.
-use Prim.Native.Nat.{ℕ, _≤_}
+use Prim.Native.Nat.{ℕ, _/_, _%_, _≤_}
 use mathlib.Core.Path.{_≡_, refl, sym, _∙_}
 use mathlib.Core.List.{List}
 use mathlib.Core.Bool.{Bool, true, false, cond, _||_}
 use lib.Dec.{eqb, leb}
-use lib.ListN.{length}
+use lib.ListN.{length, getD}
 use lib.Seq.{sets}
-use borrow.Author.Tests.{eq-eqb, ne-eqb, eqb-true, leb-true}
+use borrow.Author.Tests.{eq-eqb, ne-eqb, eqb-true, leb-true, le-leb}
 use Rattle.octets.proofs.Choice.{at-cond}
 use Rattle.octets.specs.declared.Reference.{Reference}
 use Rattle.version.specs.declared.Table.{Table}
-use Rattle.version.specs.Version.{greatestEvent}
+use Rattle.version.specs.Version.{hasEvent, greatestActions, protocolOf}
 use Rattle.context.specs.declared.Context.{Context}
-use Rattle.fitness.specs.Tables.{fitOf}
+use Rattle.codes.specs.Attributes.{parametersOf}
+use Rattle.fitness.specs.Tables.{fitnessOf, consistent, fitOf}
 use Rattle.fitness.proofs.Tables.{fit-value}
 use Rattle.call.specs.declared.Due.{Due}
 use Rattle.call.specs.declared.Due.the-variants.{Steps, Refused}
 use Rattle.call.specs.declared.Event.{Event}
 use Rattle.call.specs.declared.Settled.{Settled}
-use Rattle.call.specs.Due.{settled}
-use Rattle.call.specs.Events.{bare, carrying}
+use Rattle.call.specs.declared.Event.the-variants.{Received}
+use Rattle.call.specs.declared.Seen.{Seen}
+use Rattle.call.specs.Step.{ignored, noStep, reportedWith, statusTold, parametersSet, carriedOut, stepBy}
+use Rattle.call.specs.Due.{settledBy, settled}
+use Rattle.transitions.specs.declared.Decision.{Decision}
+use Rattle.transitions.specs.declared.Decision.the-variants.{Take, NoStep, Ignore, Report, TellStatus, SetParameters}
+use Rattle.transitions.specs.Table.{stepTable}
+use Rattle.transitions.proofs.Sound.{isPlain, rows-sound}
+use Rattle.transitions.proofs.Decided.{OfTaken, Plain, decided-plain, event-plain}
+use Rattle.call.specs.Events.{bare, carrying, seenOf}
 use Rattle.call.proofs.Kept.{DueFit, received-value, settled-fit}
 use Rattle.reply.specs.declared.Own.{Own}
-use Rattle.reply.specs.Reply.{replyOf, putOf}
-use Rattle.reply.proofs.Fits.{put-is-reply}
+use Rattle.codes.specs.declared.protocol.Protocol.{Protocol}
+use Rattle.reply.specs.Reply.{replyOf, putAll}
+use Rattle.reply.proofs.Fits.{Orderly, plain-orderly, put-is-reply}
 use Rattle.received.specs.Due.{dueOf}
-use Rattle.received.proofs.Rules.{every-due}
+use Rattle.received.proofs.Rules.{fits-small, every-due}
 use Rattle.step_arguments.specs.Arguments.{outOfRange}
 use Rattle.radio.specs.declared.Happened.{Happened}
 use Rattle.radio.specs.declared.Outcome.{Outcome}
@@ -33,7 +43,7 @@ use Rattle.radio.specs.declared.Stepped.{Stepped}
 use Rattle.radio.specs.declared.Told.{Told}
 use Rattle.radio.specs.declared.Told.the-variants.{Is, NoEvent}
 use Rattle.radio.specs.Step.{eventOf, toldDue, dueTo, reactedTo, Reaction, refused, reacted, stepOf, takenOf, refusalOf, shown}
-use Rattle.radio.proofs.Numbers.{IsOf, event-of-number}
+use Rattle.radio.proofs.Numbers.{IsOf, NoMessage, event-of-number, no-message}
 use Rattle.radio.proofs.Range.{InRange, in-range, value-most}
 
 module _ (table : Table) where
@@ -67,24 +77,75 @@ module _ (table : Table) where
 
   -- A step from a fit context ends in a fit one.
   pub react-fit : (identity : List ℕ) (x : Context) (h : Happened) (s : List ℕ) (key : ℕ) → fitOf table x ≡ true
-      → outOfRange (greatestEvent table) key (length identity) (h .number) (h .value) (h .mode) ≡ false → fitOf table (reactedTo table identity x h s .context) ≡ true
+      → outOfRange (hasEvent table (h .number)) key (length identity) (h .number) (h .value) (h .mode) ≡ false → fitOf table (reactedTo table identity x h s .context) ≡ true
   unfolding reactedTo dueTo
   react-fit identity x h s key fit range =
       settled-fit table x fit _
-      (at-cond DueFit (eqb (h .number) 18) _ _ (λ e. every-due DueFit (λ reason. tt) (λ cause. tt) received-value table identity x (h .mode) s)
-      (λ e. told-fit (h .number) (h .value) (h .reference) (value-most (greatestEvent table) key (length identity) h range)))
+      (at-cond DueFit (eqb (h .number) 18) _ _
+      (λ e. every-due DueFit (λ reason. tt) x s (λ fits cause. tt)
+      (λ fits mode m. received-value mode (getD s 0 0 / 16 % 8) m (le-leb _ _ (fits-small x (getD s 0 0) (leb-true _ _ (fit-value table x fit)) fits))) table identity (h .mode))
+      (λ e. told-fit (h .number) (h .value) (h .reference) (value-most (hasEvent table (h .number)) key (length identity) h range)))
+
+  -- A report carries a value of at most 6, where one is awaited that of the message, and nothing that was pending; and no row sends a STATUS of its own.
+  module _ (x : Context) (s : List ℕ) where
+    abbrev Ordered : Settled → Type 0
+    Ordered t = Orderly s (t .context) (t .sent) (t .sends)
+
+    module _ (small : x .talk .awaiting ≡ true → getD s 0 0 / 16 % 8 ≤ 6) where
+      reported-ordered : (cause : ℕ) → Ordered (reportedWith cause x)
+      unfolding reportedWith ignored
+      reported-ordered cause = at-cond Ordered (x .parameters .comm) _ _ (λ e. (small, refl, refl)) (λ e. tt)
+
+      carried-ordered : (d : Decision) (e : Seen) → OfTaken (λ d. isPlain (d .sends) ≡ true) d → Ordered (carriedOut (fitnessOf table) x d e)
+      unfolding carriedOut noStep ignored statusTold parametersSet
+      carried-ordered (Take d) e p = plain-orderly s _ _ (d .sends) p
+      carried-ordered NoStep e p = tt
+      carried-ordered Ignore e p = tt
+      carried-ordered (Report cause) e p = reported-ordered cause
+      carried-ordered TellStatus e p = at-cond Ordered (x .parameters .comm) _ _ (λ q. tt) (λ q. tt)
+      carried-ordered SetParameters e p = at-cond Ordered (consistent table (x .state) (parametersOf (e .attributes))) _ _ (λ q. tt) (λ q. reported-ordered 98)
+
+      step-ordered : (event : Event) → Ordered (settled table x (Steps event))
+      unfolding settledBy stepBy
+      step-ordered event =
+          carried-ordered _ (seenOf event) (decided-plain (fitnessOf table) (greatestActions table) (stepTable table) (rows-sound table) x (seenOf event .number) (seenOf event .code))
+
+    -- An event that is no message is not reported.
+    plain-ordered : (d : Decision) (e : Seen) → Plain d → Ordered (carriedOut (fitnessOf table) x d e)
+    unfolding carriedOut noStep
+    plain-ordered (Take d) e p = plain-orderly s _ _ (d .sends) p
+    plain-ordered NoStep e p = tt
+    plain-ordered Ignore e p = absurd p
+    plain-ordered (Report cause) e p = absurd p
+    plain-ordered TellStatus e p = absurd p
+    plain-ordered SetParameters e p = absurd p
+
+    told-ordered : (t : Told) → NoMessage t → Ordered (settled table x (toldDue t))
+    unfolding settledBy toldDue stepBy noStep
+    told-ordered (Is event) h =
+        plain-ordered _ (seenOf event) (event-plain (fitnessOf table) (greatestActions table) (stepTable table) (rows-sound table) x (seenOf event .number) (seenOf event .code) h)
+    told-ordered NoEvent h = tt
+
+  pub react-orderly : (identity : List ℕ) (x : Context) (h : Happened) (s : List ℕ) → fitOf table x ≡ true → Ordered x s (reactedTo table identity x h s)
+  unfolding reactedTo dueTo settledBy ignored
+  react-orderly identity x h s fit =
+      at-cond (λ due. Ordered x s (settled table x due)) (eqb (h .number) 18) _ _
+      (λ e. every-due (λ due. Ordered x s (settled table x due)) (λ reason. tt) x s
+      (λ fits cause. reported-ordered x s (λ a. fits-small x (getD s 0 0) (leb-true _ _ (fit-value table x fit)) fits) cause)
+      (λ fits mode m. step-ordered x s (λ a. fits-small x (getD s 0 0) (leb-true _ _ (fit-value table x fit)) fits) (Received mode (getD s 0 0 / 16 % 8) m)) table identity (h .mode))
+      (λ e. told-ordered x s (eventOf (h .number) (h .value) (h .reference)) (no-message (h .number) (h .value) (h .reference)))
 
   -- The step by the number of its refusal.
   pub step-by : (own : Own) (identity : List ℕ) (room : ℕ) (x : Context) (h : Happened) (s : List ℕ)
       → stepOf table own identity room x h s
-      ≡ (let n : ℕ = refusalOf table x (own .key) (length identity) h (length s) room in cond (eqb n 0) (reacted own identity s (reactedTo table identity x h s)) (refused n x))
+      ≡ (let n : ℕ = refusalOf table x (own .key) (length identity) h (length s) room in cond (eqb n 0) (reacted (protocolOf table) own identity s (reactedTo table identity x h s)) (refused n x))
   unfolding stepOf
   step-by own identity room x h s = refl
 
   -- What holds of each refusal, and of the step where none refuses, holds of the step.
   module _ (own : Own) (identity : List ℕ) (room : ℕ) (x : Context) (h : Happened) (s : List ℕ) (P : Reaction → Type 0) where
     pub of-step : P (refused (refusalOf table x (own .key) (length identity) h (length s) room) x)
-        → (InRange table x (own .key) (length identity) h (length s) room → P (reacted own identity s (reactedTo table identity x h s)))
+        → (InRange table x (own .key) (length identity) h (length s) room → P (reacted (protocolOf table) own identity s (reactedTo table identity x h s)))
         → P (stepOf table own identity room x h s)
     unfolding stepOf
     of-step no-way yes-way =
@@ -103,11 +164,11 @@ module _ (table : Table) where
     Taking r after =
         (r ≡ shown (takenOf table own identity (length d) x h s)) × (after ≡ sets d 0 (takenOf table own identity (length d) x h s .reply))
 
-    pub takes : (t : Settled) → t ≡ reactedTo table identity x h s → (n : ℕ) (after : List ℕ)
-        → (n ≡ length (putOf (length d) own identity s (t .context) (t .sends))) × (after ≡ sets d 0 (putOf (length d) own identity s (t .context) (t .sends)))
+    pub takes : (t : Settled) → t ≡ reactedTo table identity x h s → (protocol : Protocol) → protocol ≡ protocolOf table → (n : ℕ) (after : List ℕ)
+        → (n ≡ length (putAll protocol (length d) own identity s (t .context) (t .sends) (t .sent))) × (after ≡ sets d 0 (putAll protocol (length d) own identity s (t .context) (t .sends) (t .sent)))
         → Taking (record { context = t .context; outcome = record { answer = t .answer; reason = t .reason; actions = t .actions; count = n } }) after
     unfolding takenOf
-    takes t p n after w = rw (← p) (rw (w .0), w .1)
+    takes t p protocol q n after w = rw (← p, ← q) (rw (w .0), w .1)
 
     -- The two ways of the step, as the code goes them.
     abbrev pub Stepping : Stepped → List ℕ → Type 0
@@ -125,8 +186,9 @@ module _ (table : Table) where
         let o : InRange table x (own .key) (length identity) h (length s) (length d) = in-range table x _ _ h _ _ z in
         let t : Settled = reactedTo table identity x h s in
         let f : fitOf table (t .context) ≡ true = react-fit identity x h s (own .key) (o .fit) (o .range) in
-        let l : putOf (length d) own identity s (t .context) (t .sends) ≡ replyOf own identity s (t .context) (t .sends)
-        = put-is-reply (t .context) (leb-true _ _ (fit-value table (t .context) f)) (length d) own identity s (t .sends) (o .big) (o .known) (o .least) (o .most) in
+        let l : putAll (protocolOf table) (length d) own identity s (t .context) (t .sends) (t .sent) ≡ replyOf (protocolOf table) own identity s (t .context) (t .sends) (t .sent)
+        = put-is-reply (protocolOf table) (t .context) (leb-true _ _ (fit-value table (t .context) f)) own identity s (t .sends) (t .sent) (o .known) (o .least) (o .most)
+        (react-orderly identity x h s (o .fit)) (length d) (o .big) in
         rw l (sym (step-by own identity (length d) x h s ∙ rw z))
 
     pub is-taken : (a : ℕ) → a ≡ why → a ≡ 0 → (r : Stepped) (after : List ℕ) → Taking r after → Stepping r after

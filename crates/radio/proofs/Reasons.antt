@@ -6,6 +6,7 @@ use mathlib.Core.Bool.{Bool, true}
 use lib.ListN.{length}
 use borrow.Author.Tests.{eq-eqb, ne-eqb}
 use Rattle.version.specs.declared.Table.{Table}
+use Rattle.version.specs.Version.{greatestActions}
 use Rattle.context.specs.declared.Context.{Context}
 use Rattle.fitness.specs.Tables.{fitnessOf}
 use Rattle.transitions.specs.declared.Decision.{Decision}
@@ -43,7 +44,7 @@ module _ (table : Table) where
 
   told-reason : (x : Context) (t : Told) → NoMessage t → settled table x (toldDue t) .reason ≡ 0
   unfolding settledBy toldDue stepBy noStep
-  told-reason x (Is event) h = plain-reason x _ (seenOf event) (event-plain (fitnessOf table) 63 (stepTable table) (rows-sound table) x (seenOf event .number) (seenOf event .code) h)
+  told-reason x (Is event) h = plain-reason x _ (seenOf event) (event-plain (fitnessOf table) (greatestActions table) (stepTable table) (rows-sound table) x (seenOf event .number) (seenOf event .code) h)
   told-reason x NoEvent h = refl
 
   pub event-reason : (own : Own) (identity : List ℕ) (room : ℕ) (x : Context) (h : Happened) (s : List ℕ) → (h .number ≡ 18 → ⊥) → stepOf table own identity room x h s .reason ≡ 0

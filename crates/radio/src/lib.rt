@@ -65,6 +65,11 @@ fn event_of(number: u32, value: u8, reference: Reference) -> Told
         17 => Told::Is(Event::NoChannelExpired),
         18 => Told::NoEvent,
         19 => Told::Is(Event::PresExpired),
+        32 => Told::Is(Event::ReceiveModeRequested),
+        33 => Told::Is(Event::TalkRequested),
+        34 => Told::Is(Event::TransmitModeEntered),
+        35 => Told::Is(Event::DedicatedModeEntered),
+        36 => Told::Is(Event::TerminationDeleted),
         _ => Told::NoEvent,
     }
 }
@@ -123,9 +128,9 @@ fn refusal(
     let number = happened.number;
     let value = happened.value;
     let mode = happened.mode;
-    let greatest = version::greatest_event(table);
+    let known = version::has_event(table, number);
     let unsuited = step_arguments::argument_refusal(
-        greatest,
+        known,
         key,
         identity,
         number,
@@ -170,7 +175,9 @@ pub fn take(
     let taken = react(table, context, identity, happened, octets);
     let after = taken.context;
     let sends = taken.sends;
-    let count = reply::put(reply, own, identity, octets, after, sends);
+    let sent = taken.sent;
+    let protocol = version::protocol(table);
+    let count = reply::put(protocol, reply, own, identity, octets, after, sends, sent);
     Stepped {
         context: after,
         outcome: Outcome {

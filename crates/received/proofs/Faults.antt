@@ -10,6 +10,8 @@ use borrow.Author.Tests.{le-ltb}
 use Rattle.octets.proofs.Choice.{at-cond}
 use Rattle.octets.proofs.Rows.{Absent, Each, other, at-rows}
 use Rattle.codes.specs.declared.state.State.the-variants.{U0}
+use Rattle.codes.specs.declared.protocol.Protocol.{Protocol}
+use Rattle.codes.specs.declared.protocol.Protocol.the-variants.{Broadcast, Group}
 use Rattle.octets.specs.declared.Run.{Run}
 use Rattle.element.specs.declared.Found.{Found}
 use Rattle.element.specs.declared.Found.the-variants.{At, Nothing}
@@ -46,6 +48,7 @@ use Rattle.message.specs.Reading.{
   readMessage,
 }
 use Rattle.version.specs.declared.Table.{Table}
+use Rattle.version.specs.Version.{protocolOf}
 use Rattle.context.specs.declared.Context.{Context}
 use Rattle.context.specs.States.{same}
 use Rattle.transitions.specs.declared.Decision.the-variants.{Report}
@@ -82,25 +85,29 @@ immediate : (s : List ℕ) → FourBody (immediateSetupOf s)
 unfolding immediateSetupOf immediateIdentityOf
 immediate s = counted 3 _ (countedAt s 3 3 3) (λ c. counted 7 _ (countedAt s 7 1 8) (λ run. whole s _ _))
 
-bodies : (s : List ℕ) (kind : ℕ) → Each FourBody kind (kinds s)
-unfolding connectOf getStatusOf setParameterOf setupOf statusOf terminationOf terminationRejectOf terminationRequestOf
-bodies s kind =
+rejected : (protocol : Protocol) (s : List ℕ) → FourBody (terminationRejectOf protocol s)
+unfolding terminationRejectOf
+rejected Broadcast s = counted 2 (terminationRejectBehind s) (countedAt s 2 1 247) (λ run. whole s _ _)
+rejected Group s = whole s _ _
+
+bodies : (protocol : Protocol) (s : List ℕ) (kind : ℕ) → Each FourBody kind (kinds protocol s)
+unfolding connectOf getStatusOf setParameterOf setupOf statusOf terminationOf terminationRequestOf
+bodies protocol s kind =
     let terminated = counted 2 (terminationBehind s) (countedAt s 2 1 247) (λ run. whole s _ _) in
-    let rejected = counted 2 (terminationRejectBehind s) (countedAt s 2 1 247) (λ run. whole s _ _) in
     let told = counted 2 (statusBehind s) (countedAt s 2 1 247) (λ run. whole s _ _) in (
       λ e. immediate s,
       (
         λ e. whole s _ _,
-        (λ e. whole s _ _, (λ e. terminated, (λ e. whole s _ _, (λ e. rejected, (λ e. told, (λ e. whole s _ _, (λ e. whole s _ _, tt))))))),
+        (λ e. whole s _ _, (λ e. terminated, (λ e. whole s _ _, (λ e. rejected protocol s, (λ e. told, (λ e. whole s _ _, (λ e. whole s _ _, tt))))))),
       ),
     )
 
 -- A type that is not of table 9.1 is reported with 97 in every state but U0.
-unknown : (table : Table) (s : List ℕ) (x : Context) (code : ℕ) → same (x .state) U0 ≡ false → Absent code (kinds s) → decidedOf table x 18 code ≡ Report 97
+unknown : (table : Table) (protocol : Protocol) (s : List ℕ) (x : Context) (code : ℕ) → same (x .state) U0 ≡ false → Absent code (kinds protocol s) → decidedOf table x 18 code ≡ Report 97
 unfolding decidedBy decidedIn
-unknown table s x code u a = sym (no-type (x .state) x code (other code false types a) (stepTable table) (rows-sound table .types-known) u)
+unknown table protocol s x code u a = sym (no-type (x .state) x code (other code false types a) (stepTable table) (rows-sound table .types-known) u)
 
-module _ (table : Table) (x : Context) (s : List ℕ) (ours : Ours x s) (none : typeCause table x (getD s 1 0) ≡ 0) where
+module _ (table : Table) (x : Context) (s : List ℕ) (ours : Ours (protocolOf table) x s) (none : typeCause table x (getD s 1 0) ≡ 0) where
   apart : (n : ℕ) → n ≡ 97 → n ≡ 0 → ⊥
   apart n a b = omega arith
 
@@ -115,18 +122,18 @@ module _ (table : Table) (x : Context) (s : List ℕ) (ours : Ours x s) (none : 
       go true e = elim (apart (typeCause table x (getD s 1 0)) (high e) none) [ ]
       go false e = refl
 
-  typed : Absent (getD s 1 0 % 64) (kinds s) → ⊥
+  typed : Absent (getD s 1 0 % 64) (kinds (protocolOf table) s) → ⊥
   unfolding typeCause causeIn
   typed a =
       apart (typeCause table x (getD s 1 0))
-      (rw (low, unknown table s x (getD s 1 0 % 64) (ours .calling) a)) none
+      (rw (low, unknown table (protocolOf table) s x (getD s 1 0 % 64) (ours .calling) a)) none
 
   read-as : (flag : Bool) (value : ℕ) (b : Body) → FourBody b → Four (readAs flag value b)
   read-as flag value (Is message) p = p
   read-as flag value (Wrong fault) p = p
 
-  pub fault-four : length s ≤ 251 → Four (readMessage s)
+  pub fault-four : length s ≤ 251 → Four (readMessage (protocolOf table) s)
   unfolding readMessage bodyOf
   fault-four h =
-      rw (le-ltb 251 (length s) h, ours .two, ours .broadcast, low)
-      (read-as _ _ (bodyOf s (getD s 1 0 % 64)) (at-rows FourBody (getD s 1 0 % 64) _ (kinds s) (bodies s (getD s 1 0 % 64)) (λ a. elim (typed a) [ ])))
+      rw (le-ltb 251 (length s) h, ours .two, ours .discriminated, low)
+      (read-as _ _ (bodyOf (protocolOf table) s (getD s 1 0 % 64)) (at-rows FourBody (getD s 1 0 % 64) _ (kinds (protocolOf table) s) (bodies (protocolOf table) s (getD s 1 0 % 64)) (λ a. elim (typed a) [ ])))

@@ -7,15 +7,16 @@ use native.Mathlib.Omega.{arith}
 use lib.Dec.{eqb, ltb}
 use lib.ListN.{length, getD}
 use Rattle.codes.specs.declared.state.State.the-variants.{U0}
-use Rattle.codes.specs.MessageTypes.{discriminator}
+use Rattle.codes.specs.Protocol.{discriminator}
 use Rattle.codes.specs.Attributes.{parametersOf}
 use Rattle.message.specs.declared.Message.{Message}
 use Rattle.message.specs.declared.Reading.{Reading}
 use Rattle.message.specs.declared.Reading.the-variants.{Is, Unreadable, TooLong}
 use Rattle.message.specs.Reading.{readMessage}
 use Rattle.version.specs.declared.Table.{Table}
+use Rattle.version.specs.Version.{greatestActions, protocolOf}
 use Rattle.context.specs.declared.Context.{Context}
-use Rattle.context.specs.States.{same, flagOf}
+use Rattle.context.specs.States.{same}
 use Rattle.fitness.specs.Tables.{fitnessOf, consistent}
 use Rattle.transitions.specs.declared.Decision.{Decision}
 use Rattle.transitions.specs.declared.Decision.the-variants.{Take, NoStep, Ignore, Report, TellStatus, SetParameters}
@@ -33,7 +34,7 @@ use Rattle.call.specs.Events.{seenMessage, seenOf}
 use Rattle.call.specs.Reasons.{reasonNumber}
 use Rattle.call.proofs.Reasons.{same-reason, numbered}
 use Rattle.call.specs.Step.{ignored, noStep, reportedWith, statusTold, parametersSet, carriedOut, stepBy}
-use Rattle.received.specs.Received.{transactionIs, typeCause, askedOf, isOther}
+use Rattle.received.specs.Received.{transactionFits, mustNameUs, typeCause, askedOf, isOther}
 use Rattle.received.specs.Due.{understoodDue, readingDue, dueOf}
 use Rattle.received.specs.Ignored.{namesOther, tellsBy, wantsStatus, holdsOf, inOrder, firstIn}
 
@@ -92,14 +93,14 @@ module _ (table : Table) (x : Context) where
 
   -- Rules 3 to 6.
   read-reason : (identity : List ℕ) (mode : ℕ) (s : List ℕ) → same (x .state) U0 ≡ false → (r : Reading)
-      → settled table x (readingDue (understoodDue identity mode s) r) .reason
+      → settled table x (readingDue (understoodDue (protocolOf table) identity mode s) r) .reason
       ≡ cond (namesOther identity mode s r) (reasonNumber OtherIdentity) (unsaid (wantsStatus table x r))
   unfolding settledBy readingDue understoodDue namesOther wantsStatus ignored stepBy seenOf
   read-reason identity mode s calling (Is flag value m) =
       split (eqb mode 1 && isOther identity s (askedOf m .identity)) (λ e. rw e)
       (λ e. rw e
-      (split (askedOf m .disowns) (λ d. rw d (reported-reason 95))
-      (λ d. rw d (carried-reason _ (seenMessage m) (decided-listens (fitnessOf table) 63 (stepTable table) (rows-sound table) x calling (seenMessage m .number) (seenMessage m .code))))))
+      (split (mustNameUs (protocolOf table) && askedOf m .disowns) (λ d. rw d (reported-reason 95))
+      (λ d. rw d (carried-reason _ (seenMessage value m) (decided-listens (fitnessOf table) (greatestActions table) (stepTable table) (rows-sound table) x calling (seenMessage value m .number) (seenMessage value m .code))))))
   read-reason identity mode s calling (Unreadable fault) = reported-reason 96
   read-reason identity mode s calling TooLong = reported-reason 96
 
@@ -109,9 +110,9 @@ module _ (table : Table) (x : Context) where
   reason-first identity mode s =
       split (same (x .state) U0) (λ a. rw a)
       (λ a. rw a (split (ltb (length s) 2) (λ b. rw b)
-      (λ b. rw b (split (eqb (getD s 0 0 % 16) discriminator)
-      (λ c. rw c (split (transactionIs (flagOf x) (x .value) (getD s 0 0))
-      (λ d. rw d (split (eqb (typeCause table x (getD s 1 0)) 0) (λ t. rw t (read-reason identity mode s a (readMessage s)))
+      (λ b. rw b (split (eqb (getD s 0 0 % 16) (discriminator (protocolOf table)))
+      (λ c. rw c (split (transactionFits x (getD s 0 0))
+      (λ d. rw d (split (eqb (typeCause table x (getD s 1 0)) 0) (λ t. rw t (read-reason identity mode s a (readMessage (protocolOf table) s)))
       (λ t. rw t (reported-reason _))))
       (λ d. rw d)))
       (λ c. rw c)))))

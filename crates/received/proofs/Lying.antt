@@ -4,6 +4,7 @@ use mathlib.Core.Path.{_≡_}
 use mathlib.Core.List.{List}
 use mathlib.Core.Bool.{Bool, true}
 use borrow.Author.Tests.{leb-true}
+use Rattle.codes.specs.declared.protocol.Protocol.{Protocol}
 use Rattle.message.specs.declared.Identity.the-variants.{Absent, Present}
 use Rattle.message.specs.declared.Message.{Message}
 use Rattle.message.specs.declared.Message.the-variants.{
@@ -36,5 +37,5 @@ asked-within s (Termination cause) e = tt
 asked-within s (TerminationReject cause) e = tt
 asked-within s (TerminationRequest reference) e = tt
 
-pub read-within : (s : List ℕ) (flag : Bool) (value : ℕ) (m : Message) → readMessage s ≡ Is flag value m → Within s (askedOf m .identity)
-read-within s flag value m e = asked-within s m (read-lies s flag value m e)
+pub read-within : (protocol : Protocol) (s : List ℕ) (flag : Bool) (value : ℕ) (m : Message) → readMessage protocol s ≡ Is flag value m → Within s (askedOf m .identity)
+read-within protocol s flag value m e = asked-within s m (read-lies s protocol flag value m e)

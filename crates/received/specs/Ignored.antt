@@ -6,14 +6,15 @@ use mathlib.Core.Bool.{Bool, true, false, cond, not, _&&_, _||_}
 use lib.ListN.{length, getD}
 use lib.Dec.{eqb, ltb}
 use Rattle.codes.specs.declared.state.State.the-variants.{U0}
-use Rattle.codes.specs.MessageTypes.{discriminator}
+use Rattle.codes.specs.Protocol.{discriminator}
 use Rattle.codes.specs.Attributes.{parametersOf}
 use Rattle.message.specs.declared.Reading.{Reading}
 use Rattle.message.specs.declared.Reading.the-variants.{Is, Unreadable, TooLong}
 use Rattle.message.specs.Reading.{readMessage}
 use Rattle.version.specs.declared.Table.{Table}
+use Rattle.version.specs.Version.{protocolOf}
 use Rattle.context.specs.declared.Context.{Context}
-use Rattle.context.specs.States.{same, flagOf}
+use Rattle.context.specs.States.{same}
 use Rattle.fitness.specs.Tables.{consistent}
 use Rattle.transitions.specs.declared.Decision.{Decision}
 use Rattle.transitions.specs.declared.Decision.the-variants.{Take, NoStep, Ignore, Report, TellStatus, SetParameters}
@@ -23,7 +24,7 @@ use Rattle.call.specs.declared.Reason.the-variants.{NoCall, TooShort, OtherProt
 use Rattle.call.specs.declared.Seen.{Seen}
 use Rattle.call.specs.Events.{seenMessage}
 use Rattle.call.specs.Reasons.{reasonNumber}
-use Rattle.received.specs.Received.{transactionIs, typeCause, askedOf, mustNameUs, isOther}
+use Rattle.received.specs.Received.{transactionFits, typeCause, askedOf, mustNameUs, isOther}
 
 -- Rule 4: a message that can be read, in unacknowledged mode, with a mobile identity other than ours.
 unfoldable pub namesOther : List ℕ → ℕ → List ℕ → Reading → Bool
@@ -43,7 +44,7 @@ tellsBy table x attributes SetParameters = not (consistent table (x .state) (par
 -- A STATUS is due to a message: it can't be read (rule 3), is a CONNECT that doesn't name us (rule 5), or the table decides so.
 unfoldable pub wantsStatus : Table → Context → Reading → Bool
 wantsStatus table x (Is flag value message) =
-    let e : Seen = seenMessage message in (mustNameUs && askedOf message .disowns) || tellsBy table x (e .attributes) (decidedOf table x (e .number) (e .code))
+    let e : Seen = seenMessage value message in (mustNameUs (protocolOf table) && askedOf message .disowns) || tellsBy table x (e .attributes) (decidedOf table x (e .number) (e .code))
 wantsStatus table x (Unreadable fault) = true
 wantsStatus table x TooLong = true
 
@@ -51,10 +52,10 @@ wantsStatus table x TooLong = true
 unfoldable pub holdsOf : Table → List ℕ → Context → ℕ → List ℕ → Reason → Bool
 holdsOf table identity x mode s NoCall = same (x .state) U0
 holdsOf table identity x mode s TooShort = ltb (length s) 2
-holdsOf table identity x mode s OtherProtocol = not (eqb (getD s 0 0 % 16) discriminator)
-holdsOf table identity x mode s TransactionMismatch = not (transactionIs (flagOf x) (x .value) (getD s 0 0))
-holdsOf table identity x mode s OtherIdentity = eqb (typeCause table x (getD s 1 0)) 0 && namesOther identity mode s (readMessage s)
-holdsOf table identity x mode s CommFalse = not (x .parameters .comm) && (not (eqb (typeCause table x (getD s 1 0)) 0) || wantsStatus table x (readMessage s))
+holdsOf table identity x mode s OtherProtocol = not (eqb (getD s 0 0 % 16) (discriminator (protocolOf table)))
+holdsOf table identity x mode s TransactionMismatch = not (transactionFits x (getD s 0 0))
+holdsOf table identity x mode s OtherIdentity = eqb (typeCause table x (getD s 1 0)) 0 && namesOther identity mode s (readMessage (protocolOf table) s)
+holdsOf table identity x mode s CommFalse = not (x .parameters .comm) && (not (eqb (typeCause table x (getD s 1 0)) 0) || wantsStatus table x (readMessage (protocolOf table) s))
 
 -- Where several hold, the order of the rules decides, with "no call" first.
 abbrev pub inOrder : List Reason

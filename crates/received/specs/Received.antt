@@ -4,6 +4,8 @@ use mathlib.Core.List.{List, [], _∷_}
 use mathlib.Core.Bool.{Bool, true, false, cond, not, _&&_}
 use lib.ListN.{length}
 use lib.Dec.{eqb, leb}
+use Rattle.codes.specs.declared.protocol.Protocol.{Protocol}
+use Rattle.codes.specs.declared.protocol.Protocol.the-variants.{Broadcast, Group}
 use Rattle.message.specs.declared.Identity.{Identity}
 use Rattle.message.specs.declared.Identity.the-variants.{Absent, Present}
 use Rattle.message.specs.declared.Message.{Message}
@@ -22,6 +24,7 @@ use Rattle.message.specs.Content.{runOctets}
 use Rattle.message.specs.Tables.{transaction}
 use Rattle.version.specs.declared.Table.{Table}
 use Rattle.context.specs.declared.Context.{Context}
+use Rattle.context.specs.Talk.{flagOf}
 use Rattle.transitions.specs.declared.Decision.{Decision}
 use Rattle.transitions.specs.declared.Decision.the-variants.{Take, NoStep, Ignore, Report, TellStatus, SetParameters}
 use Rattle.transitions.specs.Table.{decidedOf}
@@ -30,6 +33,13 @@ use Rattle.received.specs.declared.Asked.{Asked}
 -- Rule 1: the upper half of octet 1 carries this flag and this value.
 unfoldable pub transactionIs : Bool → ℕ → ℕ → Bool
 transactionIs flag value first = eqb (first / 16) (transaction flag value)
+
+-- In a group call that awaits a value it carries this flag and any value from 0 to 6.
+unfoldable pub awaitedIs : Bool → ℕ → Bool
+awaitedIs flag first = cond flag (leb 8 (first / 16) && leb (first / 16) 14) (leb (first / 16) 6)
+
+unfoldable pub transactionFits : Context → ℕ → Bool
+transactionFits x first = cond (x .talk .awaiting) (awaitedIs (flagOf x) first) (transactionIs (flagOf x) (x .value) first)
 
 -- The cause that a decision reports, and 0 where it reports none.
 unfoldable pub causeIn : Decision → ℕ
@@ -61,9 +71,10 @@ askedOf (Termination cause) = asks Absent false
 askedOf (TerminationReject cause) = asks Absent false
 askedOf (TerminationRequest reference) = asks Absent false
 
--- In a broadcast call a CONNECT must name us.
-abbrev pub mustNameUs : Bool
-mustNameUs = true
+-- In a broadcast call a CONNECT must name us. In a group call it says whether we are the originator.
+abbrev pub mustNameUs : Protocol → Bool
+mustNameUs Broadcast = true
+mustNameUs Group = false
 
 -- Octet for octet, length included.
 unfoldable pub sameOctets : List ℕ → List ℕ → Bool

@@ -3,11 +3,13 @@ ghost use mathlib.Core.Path.{_≡_};
 ghost use lib.ListN.{length};
 ghost use Prim.Native.Nat.{_+_, _≤_};
 ghost use Rattle.octets.specs.Run.{part};
-ghost use Rattle.received.specs.Received.{sameOctets, transactionIs, causeIn, typeCause, askedOf, isOther, Within};
+ghost use Rattle.received.specs.Received.{sameOctets, transactionIs, awaitedIs, transactionFits, mustNameUs, causeIn, typeCause, askedOf, isOther, Within};
 ghost use Rattle.received.specs.Due.{dueOf, understoodDue};
 use call::Due;
 use call::Event;
 use call::Reason;
+use codes::protocol::Protocol;
+use codes::protocol::discriminator;
 use context::Context;
 use message::Identity;
 use message::Message;
@@ -26,6 +28,39 @@ fn transaction_is(flag: bool, value: u8, first: u8) -> bool
         return upper == 8 + wanted;
     }
     upper == wanted
+}
+
+// Whether octet 1 carries the flag and a value of at most 6.
+fn awaited_is(flag: bool, first: u8) -> bool
+    ensures { λ r. ⌜ r ≡ awaitedIs flag first ⌝ }
+{
+    let upper = first / 16;
+    if flag {
+        return (8 <= upper) & (upper <= 14);
+    }
+    upper <= 6
+}
+
+// Whether octet 1 is of the context's transaction; where a value is awaited, with whichever value.
+fn transaction_fits(context: Context, first: u8) -> bool
+    ensures { λ r. ⌜ r ≡ transactionFits context first ⌝ }
+{
+    let flag = context::expected_flag(context);
+    let talk = context.talk;
+    if talk.awaiting {
+        return awaited_is(flag, first);
+    }
+    transaction_is(flag, context.value, first)
+}
+
+// Whether a CONNECT must name us: in a broadcast call.
+fn must_name_us(protocol: Protocol) -> bool
+    ensures { λ r. ⌜ r ≡ mustNameUs protocol ⌝ }
+{
+    match protocol {
+        Protocol::Broadcast => true,
+        Protocol::Group => false,
+    }
 }
 
 // The cause that a decision reports, and 0 where it reports none.
@@ -119,9 +154,16 @@ fn is_other(named: Identity, octets: &[u8], ours: &[u8]) -> bool
 }
 
 // Rules 4 to 6: a message that can be read.
-fn understand(identity: &[u8], mode: u8, octets: &[u8], message: Message) -> Due
+fn understand(
+    protocol: Protocol,
+    identity: &[u8],
+    mode: u8,
+    octets: &[u8],
+    value: u8,
+    message: Message,
+) -> Due
     requires { ⌜ Within (now octets) (askedOf message .identity) ⌝ }
-    ensures { λ r. ⌜ r ≡ understoodDue (now (identity .entry)) mode (now (octets .entry)) message ⌝ }
+    ensures { λ r. ⌜ r ≡ understoodDue protocol (now (identity .entry)) mode (now (octets .entry)) value message ⌝ }
 {
     let asked = ask(message);
     let named = asked.identity;
@@ -129,10 +171,11 @@ fn understand(identity: &[u8], mode: u8, octets: &[u8], message: Message) -> Due
     if (mode == 1) & other {
         return Due::Ignored(Reason::OtherIdentity);
     }
-    if asked.disowns {
+    let must = must_name_us(protocol);
+    if must & asked.disowns {
         return Due::Reported(95);
     }
-    Due::Steps(Event::Received(mode, message))
+    Due::Steps(Event::Received(mode, value, message))
 }
 
 // What is due to a message by the six rules.
@@ -147,23 +190,23 @@ pub fn listen(table: Table, context: Context, identity: &[u8], mode: u8, octets:
         return Due::Ignored(Reason::TooShort);
     }
     let first = octets[0];
-    if first % 16 != 1 {
+    let protocol = version::protocol(table);
+    if first % 16 != discriminator(protocol) {
         return Due::Ignored(Reason::OtherProtocol);
     }
-    let flag = context::expected_flag(context);
-    if !transaction_is(flag, context.value, first) {
+    if !transaction_fits(context, first) {
         return Due::Ignored(Reason::TransactionMismatch);
     }
     let cause = type_cause(table, context, octets[1]);
     if cause != 0 {
         return Due::Reported(cause);
     }
-    match message::read(octets) {
+    match message::read(protocol, octets) {
         Reading::Is {
             flag: _,
-            value: _,
+            value,
             message,
-        } => understand(identity, mode, octets, message),
+        } => understand(protocol, identity, mode, octets, value, message),
         Reading::Unreadable(_) => Due::Reported(96),
         Reading::TooLong => Due::Reported(96),
     }

@@ -1,4 +1,4 @@
-// The command `record` of the probe: a log's bytes and an entry in numbers, the log's bytes afterwards.
+// The commands `record` and `grecord` of the probe: a log's bytes and an entry in numbers, the log's bytes afterwards.
 ghost use Prim.Native.Nat.{_≤_};
 ghost use lib.ListN.{length};
 use fields::malformed;
@@ -17,6 +17,7 @@ use text::output::put;
 use text::words::Words;
 use text::words::finished;
 use text::words::part;
+use version::Table;
 
 // The greatest number that a word may have.
 const MOST: u64 = 4294967295;
@@ -96,8 +97,9 @@ fn first_octets(octets: &[u8], start: usize, count: usize, few: &mut [u8]) -> us
     count
 }
 
-// `record BUF USED DELTA EVENT ETV EREF MODE OCTETS ANSWER STATE PARAMS ACTIONS REPLY`.
+// `record BUF USED DELTA EVENT ETV EREF MODE OCTETS ANSWER STATE PARAMS ACTIONS REPLY`, and `grecord`, by the table of the one and of the other.
 pub fn answer_record(
+    table: Table,
     line: &[u8],
     words: Words,
     octets: &mut [u8],
@@ -128,6 +130,7 @@ pub fn answer_record(
         count: reply.count,
     };
     say_recorded(
+        table,
         buffer,
         output,
         octets,
@@ -141,6 +144,7 @@ pub fn answer_record(
 }
 
 fn say_recorded(
+    table: Table,
     buffer: &mut [u8],
     output: Output,
     octets: &mut [u8],
@@ -159,7 +163,7 @@ fn say_recorded(
     let mut reply = [0u8; 256];
     let replied = first_octets(octets, sent.start, sent.count, &mut reply);
     let recorded = recorder::record_entry(
-        version::NEWEST,
+        table,
         &mut octets[0..size],
         used,
         happened,

@@ -1,19 +1,27 @@
 // Why a script is refused: the line's number, its text, what is wrong there and what is wanted.
+use codes::protocol::Protocol;
 use log_words::entry::tell_long;
 use saying::tell;
 use saying::tell_number;
 use script::Fault;
-use script::names::EVENT_NAMES;
+use script::names::BEFORE_NOTIFIED;
+use script::names::BEHIND_NOTIFIED;
+use script::names::BROADCAST_LAST;
+use script::names::BROADCAST_NOTIFIED;
+use script::names::GROUP_LAST;
+use script::names::GROUP_NOTIFIED;
 use script::words::Word;
 use settings_words::line::tell_number_of;
 use settings_words::line::tell_quoted;
 use settings_words::line::tell_text;
 use text::words::part;
 
-// The line can't be read; its time lies before that of the event before, or more than a day behind it; the step gives an answer that no log holds; or
-// the log has no room for the entry.
+// The line can't be read; it names the kind of call a second time, or behind an event; its time lies before that of the event before, or more than a day behind it; the
+// step gives an answer that no log holds; or the log has no room for the entry.
 pub(crate) enum Why {
     Unreadable(Fault, Word),
+    KindTwice,
+    KindTooLate,
     GoesBack(u64),
     TooLate,
     Answered(u8),
@@ -30,21 +38,27 @@ pub(crate) fn tell_too_long(path: &[u8]) {
     tell(b"it has over 1,048,576 bytes\n");
 }
 
-pub(crate) fn tell_refusal(path: &[u8], number: usize, line: &[u8], why: Why) {
+pub(crate) fn tell_refusal(protocol: Protocol, path: &[u8], number: usize, line: &[u8], why: Why) {
     tell_start(path);
     tell_number_of(number);
     tell_text(line);
     tell_number_of(number);
-    tell_why(line, why);
+    tell_why(protocol, line, why);
     tell(b"\n");
 }
 
-fn tell_why(line: &[u8], why: Why) {
+fn tell_why(protocol: Protocol, line: &[u8], why: Why) {
     match why {
         Why::Unreadable(fault, word) => {
             tell_found(line, word);
-            tell_wanted(fault);
+            tell_wanted(protocol, fault);
         }
+        Why::KindTwice => tell(
+            b"the kind of call stands on a line before already, and it stands once: take one of the two lines out",
+        ),
+        Why::KindTooLate => tell(
+            b"the kind of call stands before the first event: put this line at the script's start",
+        ),
         Why::GoesBack(before) => {
             tell(b"the time goes back: the event before is at ");
             tell_long(before);
@@ -81,14 +95,34 @@ fn tell_found(line: &[u8], word: Word) {
     tell(b" stands where ");
 }
 
-fn tell_wanted(fault: Fault) {
+// The names of all events that a script of such a call may have, in the order of their numbers.
+fn tell_events(protocol: Protocol) {
+    tell(&BEFORE_NOTIFIED);
+    tell(b" ");
+    match protocol {
+        Protocol::Broadcast => tell(&BROADCAST_NOTIFIED),
+        Protocol::Group => tell(&GROUP_NOTIFIED),
+    }
+    tell(b" ");
+    tell(&BEHIND_NOTIFIED);
+    tell(b" ");
+    match protocol {
+        Protocol::Broadcast => tell(&BROADCAST_LAST),
+        Protocol::Group => tell(&GROUP_LAST),
+    }
+}
+
+fn tell_wanted(protocol: Protocol, fault: Fault) {
     match fault {
+        Fault::Kind => tell(
+            b"the kind of call is wanted: broadcast, or group for one with talk-back; a script without this line is of a broadcast call",
+        ),
         Fault::Time => tell(
             b"the time is wanted: milliseconds from the start of the log, a whole number without a leading zero",
         ),
         Fault::Event => {
             tell(b"an event is wanted, one of: ");
-            tell(&EVENT_NAMES);
+            tell_events(protocol);
         }
         Fault::Value => tell(b"value=N is wanted: the transaction value, N from 0 to 6"),
         Fault::Reference => tell(

@@ -5,15 +5,17 @@ use mathlib.Core.List.{List}
 use lib.ListN.{length}
 use lib.Seq.{sets}
 use Rattle.octets.proofs.Coincide.{coincide}
+use Rattle.codes.specs.declared.protocol.Protocol.{Protocol}
 use Rattle.context.specs.declared.Context.{Context}
+use Rattle.call.specs.declared.Sent.{Sent}
 use Rattle.transitions.specs.declared.Send.{Send}
 use Rattle.reply.specs.declared.Own.{Own}
-use Rattle.reply.specs.Reply.{putOf}
+use Rattle.reply.specs.Reply.{putAll}
 
-module _ (d identity s : List ℕ) (own : Own) (x : Context) (sends : Send) where
-  pub put-count-coincides : (a b : ℕ) → a ≡ length (putOf (length d) own identity s x sends) → b ≡ length (putOf (length d) own identity s x sends) → a ≡ b
-  put-count-coincides a b = coincide (length (putOf (length d) own identity s x sends)) a b
+module _ (protocol : Protocol) (d identity s : List ℕ) (own : Own) (x : Context) (sends : Send) (k : Sent) where
+  pub put-count-coincides : (a b : ℕ) → a ≡ length (putAll protocol (length d) own identity s x sends k) → b ≡ length (putAll protocol (length d) own identity s x sends k) → a ≡ b
+  put-count-coincides a b = coincide (length (putAll protocol (length d) own identity s x sends k)) a b
 
-  pub put-leaves-coincides : (e f : List ℕ) → e ≡ sets d 0 (putOf (length d) own identity s x sends) → f ≡ sets d 0 (putOf (length d) own identity s x sends)
+  pub put-leaves-coincides : (e f : List ℕ) → e ≡ sets d 0 (putAll protocol (length d) own identity s x sends k) → f ≡ sets d 0 (putAll protocol (length d) own identity s x sends k)
       → e ≡ f
-  put-leaves-coincides e f = coincide (sets d 0 (putOf (length d) own identity s x sends)) e f
+  put-leaves-coincides e f = coincide (sets d 0 (putAll protocol (length d) own identity s x sends k)) e f

@@ -1,4 +1,5 @@
 pub mod Copied
 pub mod Putting
 pub mod Fits
+pub mod Pending
 pub mod Coincide

@@ -1,13 +1,23 @@
 -- What writing a message of the context's transaction comes to, where its runs lie in `s`.
-use Prim.Native.Nat.{ℕ}
-use mathlib.Core.List.{List, []}
+use Prim.Native.Nat.{ℕ, _+_}
+use mathlib.Core.List.{List, [], _∷_, _++_}
 use mathlib.Core.Bool.{cond}
-use lib.Dec.{ltb}
+use lib.Dec.{leb, ltb}
+use lib.ListN.{length}
+use Rattle.octets.specs.declared.Run.{Run}
+use Rattle.codes.specs.declared.state.State.{State}
+use Rattle.codes.specs.declared.attributes.Parameters.{Parameters}
+use Rattle.codes.specs.CallStates.{callStateCode}
+use Rattle.codes.specs.Attributes.{attributesOf}
+use Rattle.message.specs.declared.Half.the-variants.{Present}
 use Rattle.message.specs.declared.Message.{Message}
+use Rattle.message.specs.declared.Message.the-variants.{TerminationRequest, Status}
 use Rattle.writing.specs.declared.Wrote.{Wrote}
 use Rattle.writing.specs.declared.Wrote.the-variants.{Written, ShortBuffer, OutOfRange}
 use Rattle.writing.specs.Writing.{writable, octetsWritten}
+use Rattle.codes.specs.declared.protocol.Protocol.{Protocol}
 use Rattle.context.specs.declared.Context.{Context}
+use Rattle.call.specs.declared.Sent.{Sent}
 use Rattle.reply.specs.Reply.{flagSent}
 
 -- How many octets writing wrote.
@@ -16,7 +26,29 @@ countOf (Written count) = count
 countOf ShortBuffer = 0
 countOf OutOfRange = 0
 
-unfoldable pub putFrom : ℕ → List ℕ → Context → Message → List ℕ
-putFrom room s x message =
+unfoldable pub putFrom : Protocol → ℕ → List ℕ → Context → Message → List ℕ
+putFrom protocol room s x message =
     cond (ltb room 255) []
-    (cond (writable s (flagSent x) (x .value) message) (octetsWritten s (flagSent x) (x .value) message) [])
+    (cond (writable protocol s (flagSent x) (x .value) message) (octetsWritten protocol s (flagSent x) (x .value) message) [])
+
+-- A STATUS that tells a state and parameters, where its cause lies in a run.
+abbrev pub statusTelling : Run → State → Parameters → Message
+statusTelling cause state parameters = Status cause (Present (callStateCode state)) (Present (attributesOf parameters))
+
+-- The same where the message is put into six octets.
+unfoldable pub putSix : Protocol → List ℕ → Context → Message → List ℕ
+putSix protocol s x message =
+    cond (writable protocol s (flagSent x) (x .value) message)
+    (cond (ltb 6 (length (octetsWritten protocol s (flagSent x) (x .value) message))) [] (octetsWritten protocol s (flagSent x) (x .value) message)) []
+
+-- Octets behind the first `at`, where there is room for them, and else none.
+unfoldable pub placed : ℕ → ℕ → List ℕ → List ℕ
+placed room at octets = cond (leb (at + length octets) room) octets []
+
+-- What was pending, put behind the first `at`: a STATUS, whose cause octet is its whole source, then a TERMINATION REQUEST.
+unfoldable pub pendingOf : Protocol → ℕ → ℕ → Context → Sent → List ℕ
+pendingOf protocol room at x k =
+    let source : List ℕ = 158 ∷ [] in
+    let status : List ℕ =
+    placed room at (cond (k .status) (putSix protocol source x (statusTelling (record { start = 0; count = 1 }) (k .state) (k .parameters))) []) in
+    status ++ placed room (at + length status) (cond (k .request) (putSix protocol source x (TerminationRequest (x .reference))) [])

@@ -1,16 +1,22 @@
 // What the mobile station sends: the message that a step decides on, written over the start of the lent reply buffer.
 ghost use mathlib.Core.Path.{_≡_};
-ghost use mathlib.Core.List.{_∷_};
+ghost use mathlib.Core.List.{[], _∷_};
+ghost use mathlib.Core.Bool.{cond};
 ghost use Prim.Native.Nat.{_≤_, _+_, _%_};
-ghost use lib.ListN.{length};
+ghost use lib.ListN.{length, getD};
 ghost use lib.Seq.{sets};
 ghost use Rattle.octets.specs.Run.{part};
 ghost use Rattle.message.specs.Content.{immediateSetup};
-ghost use Rattle.reply.specs.Reply.{copyCount, statusOf, putContent, putOf};
-ghost use Rattle.reply.specs.Put.{countOf, putFrom};
+ghost use Rattle.reply.specs.Reply.{copyCount, statusOf, hearing, putContent, putOf, putAll};
+ghost use Rattle.reply.specs.Put.{countOf, statusTelling, putFrom, putSix, placed, pendingOf};
+use call::Sent;
+use codes::attributes::Parameters;
 use codes::attributes::attributes_of;
+use codes::protocol::Protocol;
+use codes::state::State;
 use codes::state::call_state_code;
 use context::Context;
+use context::Talk;
 use message::Classmark;
 use message::Half;
 use message::Message;
@@ -37,25 +43,49 @@ fn written_count(wrote: Wrote) -> usize
 }
 
 // Writes a message of the context's transaction; its runs lie in `source`.
-fn put_message(reply: &mut [u8], source: &[u8], context: Context, message: Message) -> usize
-    ensures { λ r. ⌜ r ≡ length (putFrom (length (now (reply .entry))) (now (source .entry)) context message) ⌝ }
-    ensures { λ _. ⌜ now (reply .exit) ≡ sets (now (reply .entry)) 0 (putFrom (length (now (reply .entry))) (now (source .entry)) context message) ⌝ }
+fn put_message(
+    protocol: Protocol,
+    reply: &mut [u8],
+    source: &[u8],
+    context: Context,
+    message: Message,
+) -> usize
+    ensures { λ r. ⌜ r ≡ length (putFrom protocol (length (now (reply .entry))) (now (source .entry)) context message) ⌝ }
+    ensures { λ _. ⌜ now (reply .exit) ≡ sets (now (reply .entry)) 0 (putFrom protocol (length (now (reply .entry))) (now (source .entry)) context message) ⌝ }
 {
     let flag = context::expected_flag(context);
-    let wrote = writing::write(reply, source, !flag, context.value, message);
+    let wrote = writing::write(protocol, reply, source, !flag, context.value, message);
     written_count(wrote)
 }
 
+// A STATUS that tells a state and parameters.
+fn status_telling(cause: Run, state: State, parameters: Parameters) -> Message
+    ensures { λ r. ⌜ r ≡ statusTelling cause state parameters ⌝ }
+{
+    let code = call_state_code(state);
+    let attributes = attributes_of(parameters);
+    Message::Status {
+        cause,
+        state: Half::Present(code),
+        attributes: Half::Present(attributes),
+    }
+}
+
 // Writes a STATUS: the cause, then the first `count` octets of the message received.
-fn put_status(reply: &mut [u8], context: Context, cause: u8, octets: &[u8], count: usize) -> usize
+fn put_status(
+    protocol: Protocol,
+    reply: &mut [u8],
+    context: Context,
+    cause: u8,
+    octets: &[u8],
+    count: usize,
+) -> usize
     requires { ⌜ (count ≤ 245) × (count ≤ length (now octets)) ⌝ }
-    ensures { λ r. ⌜ r ≡ length (putContent (length (now (reply .entry))) context (statusOf context ((128 + cause % 128) ∷ part (now (octets .entry)) 0 count))) ⌝ }
-    ensures { λ _. ⌜ now (reply .exit) ≡ sets (now (reply .entry)) 0 (putContent (length (now (reply .entry))) context (statusOf context ((128 + cause % 128) ∷ part (now (octets .entry)) 0 count))) ⌝ }
+    ensures { λ r. ⌜ r ≡ length (putContent protocol (length (now (reply .entry))) context (statusOf context ((128 + cause % 128) ∷ part (now (octets .entry)) 0 count))) ⌝ }
+    ensures { λ _. ⌜ now (reply .exit) ≡ sets (now (reply .entry)) 0 (putContent protocol (length (now (reply .entry))) context (statusOf context ((128 + cause % 128) ∷ part (now (octets .entry)) 0 count))) ⌝ }
 {
     let state = context.state;
     let parameters = context.parameters;
-    let code = call_state_code(state);
-    let attributes = attributes_of(parameters);
     let mut source = [0u8; 246];
     source[0] = 128 + cause % 128;
     copy_to(&mut source, 1, octets, 0, count);
@@ -63,12 +93,8 @@ fn put_status(reply: &mut [u8], context: Context, cause: u8, octets: &[u8], coun
         start: 0,
         count: 1 + count,
     };
-    let message = Message::Status {
-        cause: whole,
-        state: Half::Present(code),
-        attributes: Half::Present(attributes),
-    };
-    put_message(reply, &source, context, message)
+    let message = status_telling(whole, state, parameters);
+    put_message(protocol, reply, &source, context, message)
 }
 
 // How many octets of a message received an error STATUS copies: all or none.
@@ -83,9 +109,15 @@ fn copy_count(count: usize) -> usize
 }
 
 // Writes an IMMEDIATE SETUP with our own identity.
-fn put_immediate(reply: &mut [u8], own: Own, identity: &[u8], context: Context) -> usize
-    ensures { λ r. ⌜ r ≡ length (putContent (length (now (reply .entry))) context (immediateSetup (own .key) (own .classmark) (now (identity .entry)) (context .reference))) ⌝ }
-    ensures { λ _. ⌜ now (reply .exit) ≡ sets (now (reply .entry)) 0 (putContent (length (now (reply .entry))) context (immediateSetup (own .key) (own .classmark) (now (identity .entry)) (context .reference))) ⌝ }
+fn put_immediate(
+    protocol: Protocol,
+    reply: &mut [u8],
+    own: Own,
+    identity: &[u8],
+    context: Context,
+) -> usize
+    ensures { λ r. ⌜ r ≡ length (putContent protocol (length (now (reply .entry))) context (immediateSetup (own .key) (own .classmark) (now (identity .entry)) (context .reference))) ⌝ }
+    ensures { λ _. ⌜ now (reply .exit) ≡ sets (now (reply .entry)) 0 (putContent protocol (length (now (reply .entry))) context (immediateSetup (own .key) (own .classmark) (now (identity .entry)) (context .reference))) ⌝ }
 {
     let reference = context.reference;
     let classmark = own.classmark;
@@ -99,11 +131,53 @@ fn put_immediate(reply: &mut [u8], own: Own, identity: &[u8], context: Context) 
         identity: run,
         reference,
     };
-    put_message(reply, identity, context, message)
+    put_message(protocol, reply, identity, context, message)
 }
 
-// Writes what the step sends over the start of `reply`, and says how many octets that are. `octets` is the message received.
-pub fn put(
+// The first octet of a message, and 0 where there is none.
+fn first_of(octets: &[u8]) -> u8
+    ensures { λ r. ⌜ r ≡ getD (now (octets .entry)) 0 0 ⌝ }
+{
+    if octets.len() == 0 {
+        return 0;
+    }
+    octets[0]
+}
+
+// The context that a report is sent in: where a value is awaited, the message received has it.
+fn hearing(octets: &[u8], context: Context) -> Context
+    ensures { λ r. ⌜ r ≡ hearing (now (octets .entry)) context ⌝ }
+{
+    let talk = context.talk;
+    if !talk.awaiting {
+        return context;
+    }
+    let first = first_of(octets);
+    let state = context.state;
+    let parameters = context.parameters;
+    let timers = context.timers;
+    let reference = context.reference;
+    let remembered = context.remembered;
+    let chooser = talk.chooser;
+    Context {
+        state,
+        parameters,
+        timers,
+        value: first / 16 % 8,
+        reference,
+        remembered,
+        talk: Talk {
+            chooser,
+            termination: talk.termination,
+            status: talk.status,
+            awaiting: false,
+        },
+    }
+}
+
+// Writes what the row itself sends over the start of `reply`, and says how many octets that are. `octets` is the message received.
+fn put_own(
+    protocol: Protocol,
     reply: &mut [u8],
     own: Own,
     identity: &[u8],
@@ -111,24 +185,105 @@ pub fn put(
     context: Context,
     sends: Send,
 ) -> usize
-    ensures { λ r. ⌜ r ≡ length (putOf (length (now (reply .entry))) own (now (identity .entry)) (now (octets .entry)) context sends) ⌝ }
-    ensures { λ _. ⌜ now (reply .exit) ≡ sets (now (reply .entry)) 0 (putOf (length (now (reply .entry))) own (now (identity .entry)) (now (octets .entry)) context sends) ⌝ }
+    ensures { λ r. ⌜ r ≡ length (putOf protocol (length (now (reply .entry))) own (now (identity .entry)) (now (octets .entry)) context sends) ⌝ }
+    ensures { λ _. ⌜ now (reply .exit) ≡ sets (now (reply .entry)) 0 (putOf protocol (length (now (reply .entry))) own (now (identity .entry)) (now (octets .entry)) context sends) ⌝ }
 {
     let reference = context.reference;
     match sends {
         Send::Nothing => 0,
-        Send::ImmediateSetup => put_immediate(reply, own, identity, context),
-        Send::Setup => put_message(reply, identity, context, Message::Setup { reference }),
+        Send::ImmediateSetup => put_immediate(protocol, reply, own, identity, context),
+        Send::Setup => put_message(
+            protocol,
+            reply,
+            identity,
+            context,
+            Message::Setup { reference },
+        ),
         Send::TerminationRequest => put_message(
+            protocol,
             reply,
             identity,
             context,
             Message::TerminationRequest { reference },
         ),
-        Send::Status(cause) => put_status(reply, context, cause, octets, 0),
+        Send::Status(cause) => put_status(protocol, reply, context, cause, octets, 0),
         Send::ErrorStatus(cause) => {
             let count = copy_count(octets.len());
-            put_status(reply, context, cause, octets, count)
+            let heard = hearing(octets, context);
+            put_status(protocol, reply, heard, cause, octets, count)
         }
     }
+}
+
+// Puts a message that is due behind the first `at` octets of the reply, where there is room for it, and says how many octets stand there then.
+// It has at most six octets, and its cause is "Response to GET STATUS" where it has one.
+fn put_due(
+    protocol: Protocol,
+    reply: &mut [u8],
+    at: usize,
+    due: bool,
+    context: Context,
+    message: Message,
+) -> usize
+    requires { ⌜ at ≤ length (now reply) ⌝ }
+    ensures { λ r. ⌜ r ≡ at + length (placed (length (now (reply .entry))) at (cond due (putSix protocol (158 ∷ []) context message) [])) ⌝ }
+    ensures { λ _. ⌜ now (reply .exit) ≡ sets (now (reply .entry)) at (placed (length (now (reply .entry))) at (cond due (putSix protocol (158 ∷ []) context message) [])) ⌝ }
+{
+    if !due {
+        return at;
+    }
+    let mut six = [0u8; 6];
+    let cause = [158u8; 1];
+    let flag = context::expected_flag(context);
+    let wrote = writing::put(protocol, &mut six, &cause, !flag, context.value, message);
+    let count = written_count(wrote);
+    if reply.len() - at < count {
+        return at;
+    }
+    copy_to(reply, at, &six, 0, count);
+    at + count
+}
+
+// Puts what was pending behind the first `at` octets of the reply: a STATUS, then a TERMINATION REQUEST.
+fn put_pending(
+    protocol: Protocol,
+    reply: &mut [u8],
+    at: usize,
+    context: Context,
+    sent: Sent,
+) -> usize
+    requires { ⌜ at ≤ length (now reply) ⌝ }
+    ensures { λ r. ⌜ r ≡ at + length (pendingOf protocol (length (now (reply .entry))) at context sent) ⌝ }
+    ensures { λ _. ⌜ now (reply .exit) ≡ sets (now (reply .entry)) at (pendingOf protocol (length (now (reply .entry))) at context sent) ⌝ }
+{
+    let state = sent.state;
+    let parameters = sent.parameters;
+    let reference = context.reference;
+    let cause = Run { start: 0, count: 1 };
+    let status = status_telling(cause, state, parameters);
+    let request = Message::TerminationRequest { reference };
+    let behind = put_due(protocol, reply, at, sent.status, context, status);
+    put_due(protocol, reply, behind, sent.request, context, request)
+}
+
+// Writes what the step sends over the start of `reply`, and says how many octets that are: what the row itself sends, then what was pending.
+// `octets` is the message received.
+pub fn put(
+    protocol: Protocol,
+    reply: &mut [u8],
+    own: Own,
+    identity: &[u8],
+    octets: &[u8],
+    context: Context,
+    sends: Send,
+    sent: Sent,
+) -> usize
+    ensures { λ r. ⌜ r ≡ length (putAll protocol (length (now (reply .entry))) own (now (identity .entry)) (now (octets .entry)) context sends sent) ⌝ }
+    ensures { λ _. ⌜ now (reply .exit) ≡ sets (now (reply .entry)) 0 (putAll protocol (length (now (reply .entry))) own (now (identity .entry)) (now (octets .entry)) context sends sent) ⌝ }
+{
+    let count = put_own(protocol, reply, own, identity, octets, context, sends);
+    if sent.status | sent.request {
+        return put_pending(protocol, reply, count, context, sent);
+    }
+    count
 }

@@ -10,6 +10,8 @@ use lib.Seq.{getD-append-add}
 use lib.Dec.{leb}
 use borrow.Author.Tests.{le-leb, lt-leb}
 use Rattle.octets.proofs.Choice.{at-cond}
+use Rattle.codes.specs.declared.protocol.Protocol.{Protocol}
+use Rattle.codes.specs.declared.protocol.Protocol.the-variants.{Broadcast, Group}
 use Rattle.octets.specs.declared.Run.{Run}
 use Rattle.element.specs.declared.Found.{Found}
 use Rattle.element.specs.declared.Found.the-variants.{At, Nothing}
@@ -70,7 +72,7 @@ use Rattle.message.specs.Reading.{
   bodyOf,
 }
 use Rattle.writing.specs.Bodies.{halfOctets}
-use Rattle.roundtrip.proofs.Drawn.{HalfDrawn}
+use Rattle.roundtrip.proofs.Drawn.{HalfDrawn, RejectDrawn}
 
 -- A run that starts at `start` with `count` octets.
 abbrev pub run : ℕ → ℕ → Run
@@ -102,48 +104,58 @@ reference-back p r at e =
     let d : getD (p ++ referenceOctets r) (at + 3) 0 ≡ r .fourth = rw (← e) (getD-append-add p (referenceOctets r) 3 0) in
     simp (a, b, c, d)
 
-pub connect-back : (h : ℕ) (r : Reference) (o z : ℕ) → o < 2 → z ≡ o
-    → Is (Connect r o) ≡ bodyOf (h ∷ 0x33 ∷ r .first ∷ r .second ∷ r .third ∷ r .fourth ∷ z ∷ []) 0x33
+pub connect-back : (protocol : Protocol) (h : ℕ) (r : Reference) (o z : ℕ) → o < 2 → z ≡ o
+    → Is (Connect r o) ≡ bodyOf protocol (h ∷ 0x33 ∷ r .first ∷ r .second ∷ r .third ∷ r .fourth ∷ z ∷ []) 0x33
 unfolding bodyOf connectOf
-connect-back h r o z k e =
+connect-back protocol h r o z k e =
     let q : z % 2 ≡ o = omega arith in
     rw q (whole-end (h ∷ 0x33 ∷ r .first ∷ r .second ∷ r .third ∷ r .fourth ∷ z ∷ []) 7 (Connect r o) refl)
 
-pub parameter-back : (h a z : ℕ) → a < 16 → z ≡ a → Is (SetParameter a) ≡ bodyOf (h ∷ 0x3A ∷ z ∷ []) 0x3A
+pub parameter-back : (protocol : Protocol) (h a z : ℕ) → a < 16 → z ≡ a → Is (SetParameter a) ≡ bodyOf protocol (h ∷ 0x3A ∷ z ∷ []) 0x3A
 unfolding bodyOf setParameterOf
-parameter-back h a z k e =
+parameter-back protocol h a z k e =
     let q : z % 16 ≡ a = omega arith in rw q (whole-end (h ∷ 0x3A ∷ z ∷ []) 3 (SetParameter a) refl)
 
-pub setup-back : (h : ℕ) (r : Reference) → Is (Setup r) ≡ bodyOf (h ∷ 0x32 ∷ referenceOctets r) 0x32
+pub setup-back : (protocol : Protocol) (h : ℕ) (r : Reference) → Is (Setup r) ≡ bodyOf protocol (h ∷ 0x32 ∷ referenceOctets r) 0x32
 unfolding bodyOf setupOf
-setup-back h r = whole-end (h ∷ 0x32 ∷ referenceOctets r) 6 (Setup r) refl
+setup-back protocol h r = whole-end (h ∷ 0x32 ∷ referenceOctets r) 6 (Setup r) refl
 
-pub request-back : (h : ℕ) (r : Reference) → Is (TerminationRequest r) ≡ bodyOf (h ∷ 0x35 ∷ referenceOctets r) 0x35
+pub request-back : (protocol : Protocol) (h : ℕ) (r : Reference) → Is (TerminationRequest r) ≡ bodyOf protocol (h ∷ 0x35 ∷ referenceOctets r) 0x35
 unfolding bodyOf terminationRequestOf
-request-back h r = whole-end (h ∷ 0x35 ∷ referenceOctets r) 6 (TerminationRequest r) refl
+request-back protocol h r = whole-end (h ∷ 0x35 ∷ referenceOctets r) 6 (TerminationRequest r) refl
 
-pub termination-back : (h : ℕ) (c : List ℕ) → 1 ≤ length c → length c ≤ 247
-    → Is (Termination (run 3 (length c))) ≡ bodyOf (h ∷ 0x34 ∷ counted c) 0x34
+pub termination-back : (protocol : Protocol) (h : ℕ) (c : List ℕ) → 1 ≤ length c → length c ≤ 247
+    → Is (Termination (run 3 (length c))) ≡ bodyOf protocol (h ∷ 0x34 ∷ counted c) 0x34
 unfolding bodyOf terminationOf
-termination-back h c l k =
+termination-back protocol h c l k =
     rw (counted-is (h ∷ 0x34 ∷ counted c) 2 1 247 (length c) refl l k (omega arith))
     (whole-end (h ∷ 0x34 ∷ counted c) (3 + length c) (Termination (run 3 (length c))) (omega arith))
 
-pub reject-back : (h : ℕ) (c : List ℕ) → 1 ≤ length c → length c ≤ 247
-    → Is (TerminationReject (run 3 (length c))) ≡ bodyOf (h ∷ 0x36 ∷ counted c) 0x36
+-- TERMINATION REJECT, as each protocol draws it: its octets behind the type, and where its cause is found.
+abbrev pub rejectOctets : Protocol → List ℕ → List ℕ
+rejectOctets Broadcast c = counted c
+rejectOctets Group c = c
+
+abbrev pub rejectRun : Protocol → List ℕ → Run
+rejectRun Broadcast c = run 3 (length c)
+rejectRun Group c = run 2 4
+
+pub reject-back : (protocol : Protocol) (h : ℕ) (c : List ℕ) → RejectDrawn protocol c
+    → Is (TerminationReject (rejectRun protocol c)) ≡ bodyOf protocol (h ∷ 0x36 ∷ rejectOctets protocol c) 0x36
 unfolding bodyOf terminationRejectOf
-reject-back h c l k =
+reject-back Broadcast h c (l, k) =
     rw (counted-is (h ∷ 0x36 ∷ counted c) 2 1 247 (length c) refl l k (omega arith))
     (whole-end (h ∷ 0x36 ∷ counted c) (3 + length c) (TerminationReject (run 3 (length c))) (omega arith))
+reject-back Group h c l = whole-end (h ∷ 0x36 ∷ c) 6 (TerminationReject (run 2 4)) (omega arith)
 
 -- IMMEDIATE SETUP behind its two halves.
 abbrev pub immediate : ℕ → ℕ → Classmark → List ℕ → Reference → List ℕ
 immediate h halves c i r = h ∷ 0x31 ∷ halves ∷ 3 ∷ c .first ∷ c .second ∷ c .third ∷ length i ∷ (i ++ referenceOctets r)
 
-pub immediate-back : (h k z : ℕ) (c : Classmark) (i : List ℕ) (r : Reference) → k < 8 → z ≡ 16 * k → 1 ≤ length i → length i ≤ 8
-    → Is (ImmediateSetup k c (run 8 (length i)) r) ≡ bodyOf (immediate h z c i r) 0x31
+pub immediate-back : (protocol : Protocol) (h k z : ℕ) (c : Classmark) (i : List ℕ) (r : Reference) → k < 8 → z ≡ 16 * k → 1 ≤ length i → length i ≤ 8
+    → Is (ImmediateSetup k c (run 8 (length i)) r) ≡ bodyOf protocol (immediate h z c i r) 0x31
 unfolding bodyOf immediateSetupOf immediateIdentityOf
-immediate-back h k z c i r a e l b =
+immediate-back protocol h k z c i r a e l b =
     let s : List ℕ = immediate h z c i r in
     let t : length (i ++ referenceOctets r) ≡ length i + 4 = length-append i (referenceOctets r) in
     let q : z / 16 % 8 ≡ k = omega arith in
@@ -152,9 +164,9 @@ immediate-back h k z c i r a e l b =
     rw (counted-is s 3 3 3 3 refl (omega arith) (omega arith) (omega arith), counted-is s 7 1 8 (length i) refl l b (omega arith))
     (rw (q, x) (whole-end s (8 + length i + 4) (ImmediateSetup k c (run 8 (length i)) r) (omega arith)))
 
-pub bare-back : (h : ℕ) → Is (GetStatus Anonymous) ≡ bodyOf (h ∷ 0x39 ∷ []) 0x39
+pub bare-back : (protocol : Protocol) (h : ℕ) → Is (GetStatus Anonymous) ≡ bodyOf protocol (h ∷ 0x39 ∷ []) 0x39
 unfolding bodyOf getStatusOf
-bare-back h = rw (from-end (h ∷ 0x39 ∷ []) 0x17 0x17 2 (omega arith)) (whole-end (h ∷ 0x39 ∷ []) 2 (GetStatus Anonymous) refl)
+bare-back protocol h = rw (from-end (h ∷ 0x39 ∷ []) 0x17 0x17 2 (omega arith)) (whole-end (h ∷ 0x39 ∷ []) 2 (GetStatus Anonymous) refl)
 
 module _ (h : ℕ) (i : List ℕ) (l : 1 ≤ length i) (k : length i ≤ 8) where
   abbrev identified : List ℕ
@@ -164,9 +176,9 @@ module _ (h : ℕ) (i : List ℕ) (l : 1 ≤ length i) (k : length i ≤ 8) wher
   unfolding nextElement
   onto = let b : 4 + length i ≤ length identified = omega arith in simp (le-leb _ _ b)
 
-  pub identified-back : Is (GetStatus (Named (run 4 (length i)))) ≡ bodyOf identified 0x39
+  pub identified-back : (protocol : Protocol) → Is (GetStatus (Named (run 4 (length i)))) ≡ bodyOf protocol identified 0x39
   unfolding bodyOf getStatusOf identityBehind
-  identified-back =
+  identified-back protocol =
       let calm : elementFrom identified 2 0 15 ≡ Nothing =
       from-next identified 0 15 2 (4 + length i) (omega arith) (within-over 0x17 0 15 (omega arith)) onto
       ∙ from-end identified 0 15 (4 + length i) (omega arith) in
@@ -266,10 +278,10 @@ ends p at (Present x) (Present y) e a b =
     ends-both (p ++ ((160 + x) ∷ (176 + y) ∷ [])) at x y a b (longer p ((160 + x) ∷ (176 + y) ∷ []) at 2 e refl)
     (first-behind p ((160 + x) ∷ (176 + y) ∷ []) at e) (at-seam p ((160 + x) ∷ (176 + y) ∷ []) at 1 e)
 
-pub status-back : (h : ℕ) (c : List ℕ) (x y : Half) → 1 ≤ length c → length c ≤ 247 → HalfDrawn x → HalfDrawn y
-    → Is (Status (run 3 (length c)) x y) ≡ bodyOf (h ∷ 0x38 ∷ length c ∷ (c ++ (halfOctets 0xA x ++ halfOctets 0xB y))) 0x38
+pub status-back : (protocol : Protocol) (h : ℕ) (c : List ℕ) (x y : Half) → 1 ≤ length c → length c ≤ 247 → HalfDrawn x → HalfDrawn y
+    → Is (Status (run 3 (length c)) x y) ≡ bodyOf protocol (h ∷ 0x38 ∷ length c ∷ (c ++ (halfOctets 0xA x ++ halfOctets 0xB y))) 0x38
 unfolding bodyOf statusOf
-status-back h c x y l k a b =
+status-back protocol h c x y l k a b =
     let s : List ℕ = h ∷ 0x38 ∷ length c ∷ (c ++ (halfOctets 0xA x ++ halfOctets 0xB y)) in
     let e : Ends s (3 + length c) x y = ends (h ∷ 0x38 ∷ length c ∷ c) (3 + length c) x y (omega arith) a b in
     let z : length (c ++ (halfOctets 0xA x ++ halfOctets 0xB y)) ≡ length c + length (halfOctets 0xA x ++ halfOctets 0xB y) = length-append c _ in

@@ -9,6 +9,8 @@ use lib.Dec.{leb, eqb}
 use borrow.Author.Tests.{le-leb, leb-true, leb-false, ltb-false}
 use Rattle.octets.specs.Rows.{rows}
 use Rattle.octets.proofs.Rows.{Absent, Each, other, at-rows}
+use Rattle.codes.specs.declared.protocol.Protocol.{Protocol}
+use Rattle.codes.specs.declared.protocol.Protocol.the-variants.{Broadcast, Group}
 use Rattle.octets.specs.declared.Run.{Run}
 use Rattle.element.specs.declared.Found.{Found}
 use Rattle.element.specs.declared.Found.the-variants.{At, Nothing}
@@ -56,6 +58,7 @@ use Rattle.roundtrip.specs.Faults.{
   Drawing,
   none,
   draws,
+  rejectPiece,
   drawings,
   isFound,
   wrongFrom,
@@ -92,7 +95,7 @@ known-fault : (m : Message) (found : Found) → faultIn (unlessKnown m found) �
 known-fault m Nothing = refl
 known-fault m (At at identifier) = refl
 
-module _ (s : List ℕ) where
+module _ (protocol : Protocol) (s : List ℕ) where
   -- A message that ends at `end`: the last piece is there, and no element behind it must be known.
   whole-fault : (end : ℕ) (m : Message) → faultIn (wholeOf s end m) ≡ cond (cond (leb end (length s)) (isFound (elementFrom s end 0 15)) true) 4 0
   unfolding wholeOf
@@ -133,6 +136,12 @@ module _ (s : List ℕ) where
   cause-fault go =
       counted-fault 2 1 247 (λ cause. wholeOf s (behind cause) (go cause)) [] (λ w f. whole-there (2 + 1 + getD s 2 0) (go (counts 2)) f)
 
+  -- A TERMINATION REJECT, as each protocol draws it.
+  reject-fault : (p : Protocol) → faultIn (terminationRejectOf p s) ≡ cond (wrongFrom s 2 (rejectPiece p ∷ [])) 4 0
+  unfolding terminationRejectOf wrongFrom
+  reject-fault Broadcast = cause-fault TerminationReject
+  reject-fault Group = whole-fault 6 _
+
   immediate-fault : faultIn (immediateSetupOf s) ≡ cond (wrongFrom s 2 (octets 1 ∷ counted 3 3 ∷ counted 1 8 ∷ octets 4 ∷ [])) 4 0
   unfolding immediateSetupOf immediateIdentityOf wrongFrom countedAt
   immediate-fault = third (leb 3 (length s)) refl
@@ -158,10 +167,10 @@ module _ (s : List ℕ) where
 
   -- Behind a type of the table its drawing decides.
   abbrev FaultIs : ℕ → Body → Type 0
-  FaultIs kind body = faultIn body ≡ faultOf (isDrawn (rows kind none drawings)) (wrongIn s (rows kind none drawings))
+  FaultIs kind body = faultIn body ≡ faultOf (isDrawn (rows kind none (drawings protocol))) (wrongIn s (rows kind none (drawings protocol)))
 
-  each-kind : (kind : ℕ) → 2 ≤ length s → Each (FaultIs kind) kind (kinds s)
-  unfolding connectOf getStatusOf setParameterOf setupOf statusOf terminationOf terminationRejectOf terminationRequestOf wrongFrom
+  each-kind : (kind : ℕ) → 2 ≤ length s → Each (FaultIs kind) kind (kinds protocol s)
+  unfolding connectOf getStatusOf setParameterOf setupOf statusOf terminationOf terminationRequestOf wrongFrom
   each-kind kind two = (
     λ e. rw e immediate-fault,
     (
@@ -173,7 +182,7 @@ module _ (s : List ℕ) where
           (
             λ e. rw e (whole-fault 6 _),
             (
-              λ e. rw e (cause-fault TerminationReject),
+              λ e. rw e (reject-fault protocol),
               (
                 λ e. rw e (cause-fault (λ cause. Status cause (halfAt s (behind cause) 0xA0) (halfAt s (behind cause) 0xB0))),
                 (λ e. rw e (whole-there 2 _ two), (λ e. rw e (whole-fault 3 _), tt)),
@@ -186,14 +195,14 @@ module _ (s : List ℕ) where
   )
 
   -- A type that has no row has no drawing: the rows of table 9.1 in the order of tables 8.1 to 8.9.
-  undrawn : (kind : ℕ) → Absent kind (kinds s) → none ≡ rows kind none drawings
+  undrawn : (kind : ℕ) → Absent kind (kinds protocol s) → none ≡ rows kind none (drawings protocol)
   undrawn kind (a31, (a32, (a33, (a34, (a35, (a36, (a38, (a39, (a3A, t))))))))) =
-      other kind none drawings (a33, (a39, (a31, (a3A, (a32, (a38, (a34, (a36, (a35, tt)))))))))
+      other kind none (drawings protocol) (a33, (a39, (a31, (a3A, (a32, (a38, (a34, (a36, (a35, tt)))))))))
 
-  kind-fault : (kind : ℕ) → 2 ≤ length s → FaultIs kind (bodyOf s kind)
+  kind-fault : (kind : ℕ) → 2 ≤ length s → FaultIs kind (bodyOf protocol s kind)
   unfolding bodyOf
   kind-fault kind two =
-      at-rows (FaultIs kind) kind (Wrong UnknownType) (kinds s) (each-kind kind two)
+      at-rows (FaultIs kind) kind (Wrong UnknownType) (kinds protocol s) (each-kind kind two)
       (λ absent. ap (λ (d : Drawing). faultOf (isDrawn d) (wrongIn s d)) (undrawn kind absent))
 
   -- ---- the whole
@@ -215,24 +224,24 @@ module _ (s : List ℕ) where
   -- Document 01's numbers of a reading, from its conditions.
   abbrev Numbered : Reading → Type 0
   Numbered r =
-      (readingNumber r ≡ numberBy (tooLong s) (tooShort s) (ours s) (typed s) (ruleThree s))
-      × (faultRead r ≡ faultBy (tooLong s) (tooShort s) (ours s) (typed s) (ruleThree s))
+      (readingNumber r ≡ numberBy (tooLong s) (tooShort s) (ours protocol s) (typed protocol s) (ruleThree protocol s))
+      × (faultRead r ≡ faultBy (tooLong s) (tooShort s) (ours protocol s) (typed protocol s) (ruleThree protocol s))
 
-  pub reading-numbered : Numbered (readMessage s)
+  pub reading-numbered : Numbered (readMessage protocol s)
   unfolding readMessage
   reading-numbered =
-      cases (tooLong s) (tooShort s) (ours s) (leb 128 (octet 2 s)) refl refl refl refl
+      cases (tooLong s) (tooShort s) (ours protocol s) (leb 128 (octet 2 s)) refl refl refl refl
     where
-      cases : (a b c d : Bool) → tooLong s ≡ a → tooShort s ≡ b → ours s ≡ c → leb 128 (octet 2 s) ≡ d → Numbered (readMessage s)
+      cases : (a b c d : Bool) → tooLong s ≡ a → tooShort s ≡ b → ours protocol s ≡ c → leb 128 (octet 2 s) ≡ d → Numbered (readMessage protocol s)
       cases true b c d p q r t = rw p (refl, refl)
       cases false true c d p q r t = rw (p, q) (refl, refl)
       cases false false false d p q r t = rw (p, q, r) (refl, refl)
       cases false false true true p q r t = rw (p, q, r, t) (refl, refl)
       cases false false true false p q r t =
           let kind : ℕ = octet 2 s % 64 in
-          let b : Body = bodyOf s kind in
+          let b : Body = bodyOf protocol s kind in
           let f : FaultIs kind b = kind-fault kind (ltb-false _ _ q) in
           let h = read-as (leb 128 (octet 1 s)) (octet 1 s / 16 % 8) b in
-          let drawn : Drawing = rows kind none drawings in
+          let drawn : Drawing = rows kind none (drawings protocol) in
           rw (p, q, r, t)
           (h .1 ∙ ap answerOf f ∙ number-of (isDrawn drawn) (wrongIn s drawn), h .0 ∙ f)

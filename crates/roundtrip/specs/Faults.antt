@@ -6,6 +6,9 @@ use mathlib.Core.Bool.{Bool, true, false, cond, _&&_}
 use lib.ListN.{length, getD}
 use lib.Dec.{leb, ltb, eqb}
 use Rattle.octets.specs.Rows.{rows}
+use Rattle.codes.specs.declared.protocol.Protocol.{Protocol}
+use Rattle.codes.specs.declared.protocol.Protocol.the-variants.{Broadcast, Group}
+use Rattle.codes.specs.Protocol.{discriminator}
 use Rattle.codes.specs.MessageTypes.{
   IMMEDIATE-SETUP,
   SETUP,
@@ -16,7 +19,6 @@ use Rattle.codes.specs.MessageTypes.{
   STATUS,
   GET-STATUS,
   SET-PARAMETER,
-  discriminator,
 }
 use Rattle.element.specs.declared.Found.{Found}
 use Rattle.element.specs.declared.Found.the-variants.{At, Nothing}
@@ -37,9 +39,14 @@ pub data Drawing : Type 0 where
   none : Drawing
   draws : List Piece → Drawing
 
+-- The cause of a TERMINATION REJECT: behind a length octet in GSM 04.69, four octets in 24.068.
+abbrev pub rejectPiece : Protocol → Piece
+rejectPiece Broadcast = counted 1 247
+rejectPiece Group = octets 4
+
 -- The mandatory parts of tables 8.1 to 8.9.
-abbrev pub drawings : List (ℕ × Drawing)
-drawings =
+abbrev pub drawings : Protocol → List (ℕ × Drawing)
+drawings protocol =
     (CONNECT, draws (octets 5 ∷ [])) ∷
     (GET-STATUS, draws []) ∷
     (IMMEDIATE-SETUP, draws (octets 1 ∷ counted 3 3 ∷ counted 1 8 ∷ octets 4 ∷ [])) ∷
@@ -47,7 +54,7 @@ drawings =
     (SETUP, draws (octets 4 ∷ [])) ∷
     (STATUS, draws (counted 1 247 ∷ [])) ∷
     (TERMINATION, draws (counted 1 247 ∷ [])) ∷
-    (TERMINATION-REJECT, draws (counted 1 247 ∷ [])) ∷
+    (TERMINATION-REJECT, draws (rejectPiece protocol ∷ [])) ∷
     (TERMINATION-REQUEST, draws (octets 4 ∷ [])) ∷
     []
 
@@ -73,26 +80,26 @@ tooLong s = ltb 251 (length s)
 abbrev pub tooShort : List ℕ → Bool
 tooShort s = ltb (length s) 2
 
-abbrev pub ours : List ℕ → Bool
-ours s = eqb (octet 1 s % 16) discriminator
+abbrev pub ours : Protocol → List ℕ → Bool
+ours protocol s = eqb (octet 1 s % 16) (discriminator protocol)
 
 abbrev pub isDrawn : Drawing → Bool
 isDrawn none = false
 isDrawn (draws pieces) = true
 
 -- The type without bit 7; with bit 8 set it is none.
-abbrev pub drawing : List ℕ → Drawing
-drawing s = cond (leb 128 (octet 2 s)) none (rows (octet 2 s % 64) none drawings)
+abbrev pub drawing : Protocol → List ℕ → Drawing
+drawing protocol s = cond (leb 128 (octet 2 s)) none (rows (octet 2 s % 64) none (drawings protocol))
 
-abbrev pub typed : List ℕ → Bool
-typed s = isDrawn (drawing s)
+abbrev pub typed : Protocol → List ℕ → Bool
+typed protocol s = isDrawn (drawing protocol s)
 
 abbrev pub wrongIn : List ℕ → Drawing → Bool
 wrongIn s none = false
 wrongIn s (draws pieces) = wrongFrom s 2 pieces
 
-abbrev pub ruleThree : List ℕ → Bool
-ruleThree s = wrongIn s (drawing s)
+abbrev pub ruleThree : Protocol → List ℕ → Bool
+ruleThree protocol s = wrongIn s (drawing protocol s)
 
 -- ---- the numbers
 

@@ -1,4 +1,5 @@
-// Words for what messages hold: kinds and their directions (8.1 to 8.9), causes (table 9.4), call states (6.1.2.1), state attributes (9.4.6).
+// Words for what messages hold: kinds and their directions (8.1 to 8.9), causes (table 9.4), call states (6.1.2.1), state attributes (9.4.6). Where broadcast
+// calls (GSM 04.69) and group calls (24.068) differ, they go by the protocol.
 // The words of a table are the lines of one text, and a match gives the line.
 ghost use Prim.Native.Nat.{_≤_, _<_};
 ghost use lib.ListN.{length};
@@ -11,6 +12,7 @@ use causes::Cause;
 use causes::cause_said;
 use codes::attributes::parameters_of;
 use codes::message_type;
+use codes::protocol::Protocol;
 use codes::state::CallState;
 use codes::state::State;
 use codes::state::call_state_of;
@@ -162,7 +164,8 @@ pub fn tell_cause(first: u8) {
     );
 }
 
-fn state_line(state: State) -> u8 {
+// The number of a state, as logs have it.
+fn number_of_state(state: State) -> u8 {
     match state {
         State::U0 => 0,
         State::U0p => 1,
@@ -172,31 +175,66 @@ fn state_line(state: State) -> u8 {
         State::U4 => 5,
         State::U5 => 6,
         State::U6 => 7,
+        State::U2sl => 8,
+        State::U2wr => 9,
+        State::U2r => 10,
+        State::U2ws => 11,
+        State::U2sr => 12,
+        State::U2nc => 13,
     }
 }
 
-pub fn tell_state(state: State) {
-    let line = state_line(state);
+// The short name of the state of a number.
+pub fn write_state_name(descriptor: i32, number: u8) {
+    write_line(
+        descriptor,
+        b"U0\nU0.p\nU1\nU2\nU3\nU4\nU5\nU6\nU2sl\nU2wr\nU2r\nU2ws\nU2sr\nU2nc\n",
+        number,
+    );
+}
+
+// Which call it is, before the names of the states that say so: U1 to U4.
+fn tell_call(protocol: Protocol, number: u8) {
+    if (number < 2) | (5 < number) {
+        return;
+    }
+    match protocol {
+        Protocol::Broadcast => tell(b"BROADCAST "),
+        Protocol::Group => tell(b"GROUP "),
+    }
+}
+
+pub fn tell_state(protocol: Protocol, state: State) {
+    let number = number_of_state(state);
+    write_state_name(STDOUT_FILENO, number);
+    tell(b", ");
+    tell_call(protocol, number);
     tell_line(
-        b"U0, NULL\n\
-          U0.p, MM CONNECTION PENDING\n\
-          U1, BROADCAST CALL INITIATED\n\
-          U2, BROADCAST CALL ACTIVE\n\
-          U3, BROADCAST CALL PRESENT\n\
-          U4, BROADCAST CALL CONNECTION REQUESTED\n\
-          U5, TERMINATION REQUESTED\n\
-          U6, RECEIVE MODE ACTIVE\n",
-        line,
+        b"NULL\n\
+          MM CONNECTION PENDING\n\
+          CALL INITIATED\n\
+          CALL ACTIVE\n\
+          CALL PRESENT\n\
+          CALL CONNECTION REQUESTED\n\
+          TERMINATION REQUESTED\n\
+          RECEIVE MODE ACTIVE\n\
+          separate link\n\
+          wait for receive mode\n\
+          receive mode\n\
+          wait for send and receive mode\n\
+          send and receive mode\n\
+          no channel\n",
+        number,
     );
 }
 
 // A call state by its code.
-pub fn tell_call_state(code: u8) {
+pub fn tell_call_state(protocol: Protocol, code: u8) {
     tell(b"call state ");
     tell_number(code);
     tell(b", ");
-    match call_state_of(code) {
-        CallState::Is(state) => tell_state(state),
+    match call_state_of(protocol, code) {
+        CallState::Is(state) => tell_state(protocol, state),
         CallState::Reserved => tell(b"reserved"),
     }
     tell(b"\n");

@@ -1,11 +1,12 @@
-// A script of events, from which a log is made: one line of it, read. A line is TIME EVENT [DATA..], its words parted by one or more spaces.
-// A line that starts with # and one without words say nothing.
+// A script of events, from which a log is made: one line of it, read. A line is TIME EVENT [DATA..], its words parted by one or more spaces; or, before the first
+// event, `call broadcast` or `call group`. A line that starts with # and one without words say nothing.
 mod joined;
 pub mod names;
 pub mod words;
 
 ghost use Prim.Native.Nat.{_≤_};
 ghost use lib.ListN.{length};
+use codes::protocol::Protocol;
 use joined::Joined;
 use joined::join;
 use log::Reference;
@@ -39,6 +40,7 @@ pub struct Told {
 // What can't be read: the word of that name; a character that is no hexadecimal digit; a last octet that is half there; more than 512 octets, or than the
 // buffer has; a word behind the last; a tab.
 pub enum Fault {
+    Kind,
     Time,
     Event,
     Value,
@@ -54,6 +56,7 @@ pub enum Fault {
 // What a line is. A fault comes with the word where it is, which has no characters where the line ends too early.
 pub enum Line {
     Nothing,
+    Call(Protocol),
     Event(Told),
     Wrong(Fault, Word),
 }
@@ -76,8 +79,8 @@ fn says_nothing(line: &[u8]) -> bool {
     comment | (word.count == 0)
 }
 
-// Reads a line, which has no line feed. The octets of a message are put over the start of `octets`.
-pub fn read_line(line: &[u8], octets: &mut [u8]) -> Line {
+// Reads a line of a script for a call of this protocol. It has no line feed. The octets of a message are put over the start of `octets`.
+pub fn read_line(protocol: Protocol, line: &[u8], octets: &mut [u8]) -> Line {
     let text = without_return(line);
     if says_nothing(text) {
         return Line::Nothing;
@@ -94,19 +97,41 @@ pub fn read_line(line: &[u8], octets: &mut [u8]) -> Line {
         );
     }
     let word = word_from(text, 0);
+    if same(part(text, word.start, word.count), b"call") {
+        return read_kind(text, word.next);
+    }
     let time = number_of(part(text, word.start, word.count), LATEST);
     if !time.good {
         return Line::Wrong(Fault::Time, word);
     }
-    read_event(text, word.next, time.value, octets)
+    read_event(protocol, text, word.next, time.value, octets)
 }
 
-// The event's name and what stands behind it.
-fn read_event(line: &[u8], from: usize, time: u64, octets: &mut [u8]) -> Line
+// The kind of call that a script is of.
+fn read_kind(line: &[u8], from: usize) -> Line
     requires { ⌜ from ≤ length (now line) ⌝ }
 {
     let word = word_from(line, from);
-    let event = event_named(part(line, word.start, word.count));
+    let behind = word_from(line, word.next);
+    let kind = part(line, word.start, word.count);
+    if 0 < behind.count {
+        return Line::Wrong(Fault::Surplus, behind);
+    }
+    if same(kind, b"broadcast") {
+        return Line::Call(Protocol::Broadcast);
+    }
+    if same(kind, b"group") {
+        return Line::Call(Protocol::Group);
+    }
+    Line::Wrong(Fault::Kind, word)
+}
+
+// The event's name and what stands behind it.
+fn read_event(protocol: Protocol, line: &[u8], from: usize, time: u64, octets: &mut [u8]) -> Line
+    requires { ⌜ from ≤ length (now line) ⌝ }
+{
+    let word = word_from(line, from);
+    let event = event_named(protocol, part(line, word.start, word.count));
     if event == 0 {
         return Line::Wrong(Fault::Event, word);
     }

@@ -9,21 +9,20 @@ pub fn are_settings_out(key: u8, identity: usize) -> bool
     (7 < key) | ((identity == 0) | (8 < identity))
 }
 
-// Whether something is outside its range, where event numbers go from 1 to `greatest`.
-fn is_out_of_range(greatest: u8, key: u8, identity: usize, number: u32, value: u8, mode: u8) -> bool
-    ensures { λ r. ⌜ r ≡ outOfRange greatest key identity number value mode ⌝ }
+// Whether something is outside its range: the event where its number is not `known`.
+fn is_out_of_range(known: bool, key: u8, identity: usize, number: u32, value: u8, mode: u8) -> bool
+    ensures { λ r. ⌜ r ≡ outOfRange known key identity number value mode ⌝ }
 {
     let settings = are_settings_out(key, identity);
-    let no_event = (number == 0) | ((greatest as u32) < number);
     let no_mode = (number == 18) & (1 < mode);
     let no_value = ((number == 1) | ((number == 2) | (number == 10))) & (6 < value);
-    settings | (no_event | (no_mode | no_value))
+    settings | (!known | (no_mode | no_value))
 }
 
 // Why a step's arguments are refused: 5, 6 and 4 in their order, and 0 where they are not. `octets` is the length of the message received, `room` that
-// of the lent reply buffer, `greatest` the greatest event number that there is.
+// of the lent reply buffer; `known` says whether the step table has the event.
 pub fn argument_refusal(
-    greatest: u8,
+    known: bool,
     key: u8,
     identity: usize,
     number: u32,
@@ -32,7 +31,7 @@ pub fn argument_refusal(
     octets: usize,
     room: usize,
 ) -> u8
-    ensures { λ r. ⌜ r ≡ argumentRefusal greatest key identity number value mode octets room ⌝ }
+    ensures { λ r. ⌜ r ≡ argumentRefusal known key identity number value mode octets room ⌝ }
 {
     if room < 255 {
         return 5;
@@ -40,7 +39,7 @@ pub fn argument_refusal(
     if (number == 18) & (251 < octets) {
         return 6;
     }
-    if is_out_of_range(greatest, key, identity, number, value, mode) {
+    if is_out_of_range(known, key, identity, number, value, mode) {
         return 4;
     }
     0

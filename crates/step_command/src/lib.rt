@@ -1,8 +1,9 @@
-// The command `step` of the probe: a context and an event in numbers, the step's outcome in numbers.
+// The commands `step` and `gstep` of the probe: a context and an event in numbers, the step's outcome in numbers.
 ghost use Prim.Native.Nat.{_≤_};
 
 mod context_words;
 
+use codes::protocol::Protocol;
 use context::Context;
 use context_words::Lent;
 use context_words::Told;
@@ -26,6 +27,7 @@ use text::output::Output;
 use text::words::Words;
 use text::words::finished;
 use text::words::part;
+use version::Table;
 
 pub struct OwnWord {
     pub own: Own,
@@ -94,15 +96,16 @@ fn room_of(length: u64) -> usize
     255
 }
 
-// `step CONTEXT.. CKSN CLASSMARK IDENTITY BUFLEN EVENT ETV EREF MODE OCTETS`.
+// `step CONTEXT.. CKSN CLASSMARK IDENTITY BUFLEN EVENT ETV EREF MODE OCTETS`, and `gstep`, by the table of the one and of the other.
 pub fn answer_step(
+    table: Table,
     line: &[u8],
     words: Words,
     octets: &mut [u8],
     buffer: &mut [u8],
     output: Output,
 ) -> Output {
-    let lent = lent_context(line, words);
+    let lent = lent_context(version::protocol(table), line, words);
     let lent_words = lent.words;
     let own = own_word(line, lent_words);
     let own_words = own.words;
@@ -122,11 +125,11 @@ pub fn answer_step(
     }
     let said = own.own;
     let happened = event.happened;
-    let kept = lent.lent;
     say_step(
+        table,
         buffer,
         output,
-        kept,
+        lent.lent,
         said,
         part(octets, 0, named),
         happened,
@@ -137,6 +140,7 @@ pub fn answer_step(
 
 // Numbers that are no context are as a context that is not fit: they come back as they were given.
 fn say_step(
+    table: Table,
     buffer: &mut [u8],
     output: Output,
     lent: Lent,
@@ -151,6 +155,7 @@ fn say_step(
     match context_told(lent) {
         Told::Is(context) => {
             say_stepped(
+                table,
                 buffer,
                 output,
                 context,
@@ -163,13 +168,14 @@ fn say_step(
         }
         Told::NoContext => {
             let answer = say(buffer, output, b"7 ");
-            let same = say_lent(buffer, answer, lent);
+            let same = say_lent(version::protocol(table), buffer, answer, lent);
             say(buffer, same, b" 0 - 0\n")
         }
     }
 }
 
 fn say_stepped(
+    table: Table,
     buffer: &mut [u8],
     output: Output,
     context: Context,
@@ -182,7 +188,8 @@ fn say_stepped(
     requires { ⌜ room ≤ 255 ⌝ }
 {
     let mut reply = [0u8; 255];
-    let stepped = radio::step(
+    let stepped = radio::step_by(
+        table,
         context,
         own,
         identity,
@@ -190,13 +197,19 @@ fn say_stepped(
         octets,
         &mut reply[0..room],
     );
-    say_outcome(buffer, output, stepped, &reply)
+    say_outcome(version::protocol(table), buffer, output, stepped, &reply)
 }
 
-fn say_outcome(buffer: &mut [u8], output: Output, stepped: Stepped, reply: &[u8; 255]) -> Output {
+fn say_outcome(
+    protocol: Protocol,
+    buffer: &mut [u8],
+    output: Output,
+    stepped: Stepped,
+    reply: &[u8; 255],
+) -> Output {
     let outcome = stepped.outcome;
     let count = outcome.count;
-    let after = say_after(buffer, output, stepped);
+    let after = say_after(protocol, buffer, output, stepped);
     let sent = say_octets(buffer, after, part(reply, 0, count));
     say_reason(buffer, sent, outcome.reason)
 }
@@ -209,12 +222,12 @@ fn say_reason(buffer: &mut [u8], output: Output, reason: u8) -> Output {
 }
 
 // The answer, the context afterwards and the actions.
-fn say_after(buffer: &mut [u8], output: Output, stepped: Stepped) -> Output {
+fn say_after(protocol: Protocol, buffer: &mut [u8], output: Output, stepped: Stepped) -> Output {
     let after = stepped.context;
     let outcome = stepped.outcome;
     let answer = say_number(buffer, output, outcome.answer);
     let space = say(buffer, answer, b" ");
-    let shown = say_context(buffer, space, after);
+    let shown = say_context(protocol, buffer, space, after);
     say_actions(buffer, shown, outcome.actions)
 }
 

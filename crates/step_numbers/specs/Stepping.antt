@@ -1,11 +1,11 @@
--- The step, as C calls it: sixteen octets of context, twenty-one of settings, an event in numbers, a message and a reply buffer of a length.
+-- The step, as C calls it, by a table: sixteen octets of context, twenty-one of settings, an event in numbers, a message and a reply buffer of a length.
 use Prim.Native.Nat.{ℕ}
 use mathlib.Core.Path.{_≡_}
 use mathlib.Core.List.{List, []}
 use lib.ListN.{length}
 use lib.Seq.{sets}
 use Rattle.context.specs.declared.Context.{Context}
-use Rattle.version.specs.Version.{newest}
+use Rattle.version.specs.declared.Table.{Table}
 use Rattle.radio.specs.declared.Happened.{Happened}
 use Rattle.radio.specs.declared.Outcome.{Outcome}
 use Rattle.radio.specs.Step.{Reaction, shown, stepOf}
@@ -44,17 +44,17 @@ unfoldable pub called : Reaction → Call
 called r = record { step = stepShown (shown r .outcome); context = octetsOf (r .context); reply = r .reply }
 
 -- The call where the sixteen octets are a context.
-unfoldable pub callFrom : (settings : List ℕ) (room : ℕ) → Occurrence → (message : List ℕ) → Context → Call
-callFrom s room e m x = called (stepOf newest (ownOf s) (identityOf s) room x (happenedOf e) m)
+unfoldable pub callFrom : Table → (settings : List ℕ) (room : ℕ) → Occurrence → (message : List ℕ) → Context → Call
+callFrom table s room e m x = called (stepOf table (ownOf s) (identityOf s) room x (happenedOf e) m)
 
 -- Answer 7 and nothing changed, where they are none.
 abbrev pub noCall : List ℕ → Call
 noCall c = record { step = record { answer = 7; reason = 0; actions = 0; count = 0 }; context = c; reply = [] }
 
-unfoldable pub callOn : (context settings : List ℕ) (room : ℕ) → Occurrence → (message : List ℕ) → Reading → Call
-callOn c s room e m (Is x) = callFrom s room e m x
-callOn c s room e m NoContext = noCall c
+unfoldable pub callOn : Table → (context settings : List ℕ) (room : ℕ) → Occurrence → (message : List ℕ) → Reading → Call
+callOn table c s room e m (Is x) = callFrom table s room e m x
+callOn table c s room e m NoContext = noCall c
 
 -- The call.
-unfoldable pub callOf : (context settings : List ℕ) (room : ℕ) → Occurrence → (message : List ℕ) → Call
-callOf c s room e m = callOn c s room e m (contextOf c)
+unfoldable pub callOf : Table → (context settings : List ℕ) (room : ℕ) → Occurrence → (message : List ℕ) → Call
+callOf table c s room e m = callOn table c s room e m (contextOf c)

@@ -1,11 +1,10 @@
-// The step over the octets that a host in C keeps of its context and its settings, an event and an outcome in numbers.
+// The step over the octets that a host in C keeps of its context and its settings, an event and an outcome in numbers. It goes by the step table that it is given.
 ghost use mathlib.Core.Path.{_≡_};
 ghost use Prim.Native.Nat.{_+_, _≤_};
 ghost use lib.ListN.{length};
 ghost use lib.Seq.{sets};
 ghost use Rattle.octets.specs.Run.{part};
 ghost use Rattle.context.specs.Context.{cleared};
-ghost use Rattle.version.specs.Version.{newest};
 ghost use Rattle.radio.specs.Step.{shown, stepOf};
 ghost use Rattle.context_octets.specs.Octets.{octetsOf};
 ghost use Rattle.step_numbers.specs.Stepping.{Comes, callFrom, callOf, happenedOf, stepShown};
@@ -17,6 +16,7 @@ use radio::Happened;
 use radio::Outcome;
 use radio::Stepped;
 use reply::Own;
+use version::Table;
 
 // An event and its data, in C's numbers; what it does not carry has no effect.
 #[repr(C)]
@@ -77,6 +77,7 @@ fn step_shown(outcome: Outcome) -> Step
 
 // The step by value, with the identity as a run of the settings' octets.
 fn stepped(
+    table: Table,
     context: Context,
     own: Own,
     settings: &[u8],
@@ -86,13 +87,14 @@ fn stepped(
     reply: &mut [u8],
 ) -> Stepped
     requires { ⌜ run .start + run .count ≤ length (now settings) ⌝ }
-    ensures { λ r. ⌜ r ≡ shown (stepOf newest own (part (now (settings .entry)) (run .start) (run .count)) (length (now (reply .entry))) context (happenedOf event) (now (message .entry))) ⌝ }
-    ensures { λ _. ⌜ now (reply .exit) ≡ sets (now (reply .entry)) 0 (stepOf newest own (part (now (settings .entry)) (run .start) (run .count)) (length (now (reply .entry))) context (happenedOf event) (now (message .entry)) .reply) ⌝ }
+    ensures { λ r. ⌜ r ≡ shown (stepOf table own (part (now (settings .entry)) (run .start) (run .count)) (length (now (reply .entry))) context (happenedOf event) (now (message .entry))) ⌝ }
+    ensures { λ _. ⌜ now (reply .exit) ≡ sets (now (reply .entry)) 0 (stepOf table own (part (now (settings .entry)) (run .start) (run .count)) (length (now (reply .entry))) context (happenedOf event) (now (message .entry)) .reply) ⌝ }
 {
     let start = run.start;
     let end = start + run.count;
     let happened = happened_of(event);
-    radio::step(
+    radio::step_by(
+        table,
         context,
         own,
         &settings[start..end],
@@ -104,6 +106,7 @@ fn stepped(
 
 // The step from the context that the sixteen octets are; they are written again.
 fn step_from(
+    table: Table,
     from: Context,
     context: &mut [u8; 16],
     settings: &[u8; 21],
@@ -111,12 +114,12 @@ fn step_from(
     message: &[u8],
     reply: &mut [u8],
 ) -> Step
-    ensures { λ r. ⌜ Comes (callFrom (now (settings .entry)) (length (now (reply .entry))) event (now (message .entry)) from)
+    ensures { λ r. ⌜ Comes (callFrom table (now (settings .entry)) (length (now (reply .entry))) event (now (message .entry)) from)
         (now (reply .entry)) r (now (context .exit)) (now (reply .exit)) ⌝ }
 {
     let own = settings_octets::own_of(settings);
     let run = settings_octets::identity_run(settings);
-    let come = stepped(from, own, settings, run, event, message, reply);
+    let come = stepped(table, from, own, settings, run, event, message, reply);
     let after = come.context;
     let outcome = come.outcome;
     context_octets::write(after, context);
@@ -125,17 +128,18 @@ fn step_from(
 
 // The step.
 pub fn take_step(
+    table: Table,
     context: &mut [u8; 16],
     settings: &[u8; 21],
     event: Occurrence,
     message: &[u8],
     reply: &mut [u8],
 ) -> Step
-    ensures { λ r. ⌜ Comes (callOf (now (context .entry)) (now (settings .entry)) (length (now (reply .entry))) event (now (message .entry)))
+    ensures { λ r. ⌜ Comes (callOf table (now (context .entry)) (now (settings .entry)) (length (now (reply .entry))) event (now (message .entry)))
         (now (reply .entry)) r (now (context .exit)) (now (reply .exit)) ⌝ }
 {
     match context_octets::read(context) {
-        Reading::Is(from) => step_from(from, context, settings, event, message, reply),
+        Reading::Is(from) => step_from(table, from, context, settings, event, message, reply),
         Reading::NoContext => Step {
             answer: 7,
             reason: 0,

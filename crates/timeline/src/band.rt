@@ -59,8 +59,8 @@ fn is_full(place: Place, next: Place) -> bool {
     (0 < place.label) & beyond
 }
 
-fn band_bottom(y: u64, end: Place) -> u64 {
-    sum(below(first_line(y), end.lines), 14)
+fn band_bottom(view: View, y: u64, end: Place) -> u64 {
+    sum(below(first_line(view, y), end.lines), 14)
 }
 
 // How far the picture reaches.
@@ -77,7 +77,7 @@ pub(crate) fn measure(
     let mut turns: u64 = 65536;
     while turns > 0 {
         let end = band_end(log, view, total, place);
-        y = band_bottom(y, end);
+        y = band_bottom(view, y, end);
         if is_last(y, total, end) {
             return Extent {
                 total,
@@ -115,7 +115,7 @@ pub(crate) fn draw_bands(
     while turns > 0 {
         let end = band_end(log, view, extent.total, place);
         draw_band(descriptor, log, view, y, place, end, extent);
-        y = band_bottom(y, end);
+        y = band_bottom(view, y, end);
         if extent.drawn <= end.number {
             return;
         }
@@ -134,14 +134,14 @@ fn draw_band(
     extent: Extent,
 ) {
     draw_title(descriptor, y, first, end, extent);
-    draw_lanes(descriptor, y);
+    draw_lanes(descriptor, view, y);
     draw_entries(descriptor, log, view, y, first, end.number, 0);
     if extent.total <= end.number {
         draw_tail(descriptor, view, y, end);
     }
     draw_entries(descriptor, log, view, y, first, end.number, 1);
     if first.number < end.number {
-        draw_list_head(descriptor, y);
+        draw_list_head(descriptor, view, y);
     }
     draw_entries(descriptor, log, view, y, first, end.number, 2);
 }
@@ -216,10 +216,10 @@ fn draw_entry(descriptor: i32, log: &[u8], view: View, y: u64, place: Place, kin
     let Found::Read(entry, at) = read_entry(table, log, place.at) else {
         return next_place(log, view, place);
     };
-    let next = onward(view, place, entry, at);
+    let next = onward(log, view, place, entry, at);
     match kind {
         0 => draw_segment(descriptor, view, y, place, next, entry.delta as u64),
-        1 => draw_mark(descriptor, y, place, next, entry),
+        1 => draw_mark(descriptor, view, y, place, next, entry),
         _ => draw_row(descriptor, log, view, y, place, next, entry),
     }
     next

@@ -7,6 +7,7 @@ use crate::place::Place;
 use crate::segment::write_bounds;
 use crate::survey::Bounds;
 use crate::survey::Survey;
+use codes::protocol::Protocol;
 use drawing::begin_text;
 use drawing::end_text;
 use drawing::rectangle;
@@ -114,9 +115,10 @@ fn draw_summary(descriptor: i32, table: Table, time: u64, extent: Extent) {
     begin_text(descriptor, b"a", MARGIN, 60);
     write_form(
         descriptor,
-        b"Log of version #: ",
+        b"Log of version #",
         &[version::number(table) as u64],
     );
+    write_call(descriptor, version::protocol(table));
     write_count(descriptor, extent.total, b" entry in ", b" entries in ");
     write_clock(descriptor, time);
     write_drawn(descriptor, extent);
@@ -124,6 +126,14 @@ fn draw_summary(descriptor: i32, table: Table, time: u64, extent: Extent) {
         descriptor,
         b". The picture shows what the log claims and judges nothing: heidezirkel judge does.</text>\n",
     );
+}
+
+// A broadcast call needs no word.
+fn write_call(descriptor: i32, protocol: Protocol) {
+    match protocol {
+        Protocol::Broadcast => write_text(descriptor, b": "),
+        Protocol::Group => write_text(descriptor, b", of a group call: "),
+    }
 }
 
 fn write_drawn(descriptor: i32, extent: Extent) {

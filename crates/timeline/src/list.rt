@@ -1,15 +1,19 @@
 // The numbered list below a band: a line an entry, in words.
+use crate::lanes::axis;
 use crate::mark::draw_number;
 use crate::place::Place;
 use crate::place::View;
 use crate::place::Watch;
+use crate::place::has_two_actions;
 use crate::place::less;
 use crate::place::sum;
+use codes::protocol::Protocol;
 use drawing::begin_text;
 use drawing::end_text;
 use drawing::write_form;
 use fields::fault_number;
 use fields::octet_at;
+use fields::reply_messages::messages_of;
 use log::Claim;
 use log::Entry;
 use log::Run;
@@ -26,10 +30,10 @@ use saying::write_text;
 use text::words::part;
 use timer::Window;
 
-// From a band's top to the list's head and to its first line.
-const HEAD: u64 = 248;
+// From the time axis to the list's head and to its first line.
+const HEAD: u64 = 40;
 
-const FIRST: u64 = 265;
+const FIRST: u64 = 57;
 
 const LINE: u64 = 16;
 
@@ -54,13 +58,13 @@ pub(crate) fn below(y: u64, lines: u64) -> u64 {
     sum(y, lines * LINE)
 }
 
-pub(crate) fn first_line(y: u64) -> u64 {
-    sum(y, FIRST)
+pub(crate) fn first_line(view: View, y: u64) -> u64 {
+    sum(axis(view, y), FIRST)
 }
 
 // The columns' names, each above its column, and a rule below them.
-pub(crate) fn draw_list_head(descriptor: i32, y: u64) {
-    let base = sum(y, HEAD);
+pub(crate) fn draw_list_head(descriptor: i32, view: View, y: u64) {
+    let base = sum(axis(view, y), HEAD);
     let rule = sum(base, 4);
     write_form(
         descriptor,
@@ -86,7 +90,9 @@ pub(crate) fn draw_row(
     entry: Entry,
 ) {
     let claim = entry.claim;
-    let base = below(first_line(y), before.lines);
+    let table = view.table;
+    let protocol = version::protocol(table);
+    let base = below(first_line(view, y), before.lines);
     draw_number(
         descriptor,
         claim.answer,
@@ -95,10 +101,16 @@ pub(crate) fn draw_row(
         after.number,
         after.time,
     );
-    draw_happened(descriptor, log, base, after.time, entry);
-    draw_step(descriptor, log, base, before.state, claim);
+    draw_happened(descriptor, protocol, log, base, after.time, entry);
+    draw_step(descriptor, base, before.state, claim);
+    draw_sent(descriptor, protocol, log, base, claim.reply);
+    draw_asked(descriptor, view, base, before, after, claim.actions);
+}
+
+// What is asked of the other layers, and what that starts or leads back to.
+fn draw_asked(descriptor: i32, view: View, base: u64, before: Place, after: Place, actions: u8) {
     begin_text(descriptor, b"a", ASKED, base);
-    write_actions(descriptor, first_actions(claim.actions));
+    write_actions(descriptor, first_actions(actions));
     write_started(
         descriptor,
         b"; the invitation timer ends ",
@@ -117,19 +129,19 @@ pub(crate) fn draw_row(
         write_return(descriptor, after.state);
     }
     end_text(descriptor);
-    if 32 < claim.actions {
+    if has_two_actions(actions) {
         begin_text(descriptor, b"a", ASKED, sum(base, LINE));
         write_actions(descriptor, 32);
         end_text(descriptor);
     }
 }
 
-// The sixth action has a line of its own where there are others.
+// All but the sixth where that has a line of its own.
 fn first_actions(actions: u8) -> u8 {
-    if actions == 32 {
-        return 32;
+    if has_two_actions(actions) {
+        return std::num::wrapping_sub_u8(actions, 32);
     }
-    actions % 32
+    actions
 }
 
 // Within which time a timer ends that was started here.
@@ -151,34 +163,51 @@ fn write_return(descriptor: i32, state: u8) {
     write_text(descriptor, b", where the termination was asked from");
 }
 
-fn draw_happened(descriptor: i32, log: &[u8], base: u64, time: u64, entry: Entry) {
+fn draw_happened(
+    descriptor: i32,
+    protocol: Protocol,
+    log: &[u8],
+    base: u64,
+    time: u64,
+    entry: Entry,
+) {
     let carried = entry.carried;
     let message = carried.message;
     begin_text(descriptor, b"a", TIME, base);
     write_clock(descriptor, time);
     end_text(descriptor);
     begin_text(descriptor, b"a", EVENT, base);
-    write_event_name(descriptor, entry.event);
+    write_event_name(descriptor, protocol, entry.event);
     if entry.event == 18 {
         write_text(descriptor, b": ");
-        write_message(descriptor, log, message);
+        write_message(descriptor, protocol, log, message);
     }
     end_text(descriptor);
 }
 
-fn draw_step(descriptor: i32, log: &[u8], base: u64, before: u8, claim: Claim) {
-    let reply = claim.reply;
+fn draw_step(descriptor: i32, base: u64, before: u8, claim: Claim) {
     begin_text(descriptor, b"a", ANSWER, base);
     write_answer_name(descriptor, claim.answer);
     end_text(descriptor);
     begin_text(descriptor, b"a", STATE, base);
     write_states(descriptor, before, claim.state);
     end_text(descriptor);
-    if 0 < reply.count {
-        begin_text(descriptor, b"a", SENT, base);
-        write_message(descriptor, log, reply);
-        end_text(descriptor);
+}
+
+// The messages of a reply, one below the other.
+fn draw_sent(descriptor: i32, protocol: Protocol, log: &[u8], base: u64, reply: Run) {
+    let messages = messages_of(protocol, log, reply);
+    draw_message(descriptor, protocol, log, base, messages.first);
+    draw_message(descriptor, protocol, log, sum(base, LINE), messages.behind);
+}
+
+fn draw_message(descriptor: i32, protocol: Protocol, log: &[u8], base: u64, run: Run) {
+    if run.count == 0 {
+        return;
     }
+    begin_text(descriptor, b"a", SENT, base);
+    write_message(descriptor, protocol, log, run);
+    end_text(descriptor);
 }
 
 fn write_states(descriptor: i32, before: u8, after: u8) {
@@ -190,11 +219,11 @@ fn write_states(descriptor: i32, before: u8, after: u8) {
 }
 
 // The kind of a message that stands in the log.
-fn write_message(descriptor: i32, log: &[u8], run: Run) {
+fn write_message(descriptor: i32, protocol: Protocol, log: &[u8], run: Run) {
     let start = run.start;
     let count = run.count;
     let octets = part(log, start, count);
-    match message::read(octets) {
+    match message::read(protocol, octets) {
         Reading::TooLong => write_text(descriptor, b"too long"),
         Reading::Unreadable(fault) => write_faulty(descriptor, octets, fault),
         Reading::Is {

@@ -2,6 +2,7 @@
 // timer's expiry.
 use crate::lanes::lane;
 use crate::place::Place;
+use crate::place::View;
 use crate::place::less;
 use crate::place::sum;
 use drawing::attribute;
@@ -60,8 +61,8 @@ fn draw_dot(descriptor: i32, answer: u8, x: u64, y: u64) {
 }
 
 // From the number down to the entry's time, and on to its state; broken where it was not taken.
-fn draw_leader(descriptor: i32, answer: u8, y: u64, from: u64, x: u64, end: u64) {
-    let bend = less(lane(y, 0), 4);
+fn draw_leader(descriptor: i32, view: View, answer: u8, y: u64, from: u64, x: u64, end: u64) {
+    let bend = less(lane(view, y, 0), 4);
     if answer == 0 {
         line(descriptor, b"lead", from, sum(y, 44), x, bend);
         line(descriptor, b"lead", x, bend, x, end);
@@ -102,14 +103,21 @@ fn draw_expiry(descriptor: i32, x: u64, y: u64) {
     shape(descriptor, b"cross", x, sum(y, 20), b"l8 8m0 -8l-8 8");
 }
 
-pub(crate) fn draw_mark(descriptor: i32, y: u64, before: Place, after: Place, entry: Entry) {
+pub(crate) fn draw_mark(
+    descriptor: i32,
+    view: View,
+    y: u64,
+    before: Place,
+    after: Place,
+    entry: Entry,
+) {
     let claim = entry.claim;
     let reply = claim.reply;
     let answer = claim.answer;
     let x = after.x / 1000;
-    let from = sum(lane(y, before.state), 9);
-    let to = sum(lane(y, after.state), 9);
-    draw_leader(descriptor, answer, y, after.label, x, to);
+    let from = sum(lane(view, y, before.state), 9);
+    let to = sum(lane(view, y, after.state), 9);
+    draw_leader(descriptor, view, answer, y, after.label, x, to);
     if before.state != after.state {
         line(descriptor, b"go", x, from, x, to);
     }

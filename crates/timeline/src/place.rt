@@ -1,4 +1,6 @@
 // Where the walk through a log stands: what the log claims there, and where that is in the picture.
+use fields::reply_messages::messages_of;
+use log::Claim;
 use log::Entry;
 use log::Found;
 use log::read_entry;
@@ -32,10 +34,11 @@ pub(crate) const INVITED: u8 = 4;
 
 pub(crate) const JOINING: u8 = 5;
 
-// How the log is read, by the table of its version, and the picture drawn: units a second, milliseconds from one mark of the time axis to the next, and what
-// the times leave of the joining timer and of the invitation timer.
+// How the log is read, by the table of its version, and the picture drawn: how many lanes it has, units a second, milliseconds from one mark of the time axis to
+// the next, and what the times leave of the joining timer and of the invitation timer.
 pub(crate) struct View {
     pub table: Table,
+    pub lanes: u8,
     pub scale: u64,
     pub step: u64,
     pub joining: Window,
@@ -192,9 +195,16 @@ fn is_entered(state: u8, event: u8, before: u8, entry: Entry) -> bool {
     (entry.event == event) & (claim.answer == 0) & (claim.state == state) & (before != state)
 }
 
-// An entry that claims the long sixth action beside others has two lines.
-pub(crate) fn lines_of(actions: u8) -> u64 {
-    if 32 < actions {
+// The long sixth action has a line of its own where there are others.
+pub(crate) fn has_two_actions(actions: u8) -> bool {
+    (actions / 32 % 2 == 1) & (actions != 32)
+}
+
+// The second message of a reply has one too, below the first.
+fn lines_of(table: Table, log: &[u8], claim: Claim) -> u64 {
+    let messages = messages_of(version::protocol(table), log, claim.reply);
+    let behind = messages.behind;
+    if has_two_actions(claim.actions) | (0 < behind.count) {
         return 2;
     }
     1
@@ -217,7 +227,7 @@ fn watched(watch: Watch, starts: bool, stays: bool, time: u64) -> Watch {
 }
 
 // The place behind an entry, which ends at byte `at`.
-pub(crate) fn onward(view: View, place: Place, entry: Entry, at: usize) -> Place {
+pub(crate) fn onward(log: &[u8], view: View, place: Place, entry: Entry, at: usize) -> Place {
     let claim = entry.claim;
     let delta = entry.delta as u64;
     let time = sum(place.time, delta);
@@ -238,7 +248,7 @@ pub(crate) fn onward(view: View, place: Place, entry: Entry, at: usize) -> Place
         invitation,
         x,
         label: greater(x / 1000, sum(place.label, APART)),
-        lines: sum(place.lines, lines_of(claim.actions)),
+        lines: sum(place.lines, lines_of(table, log, claim)),
     }
 }
 
@@ -250,5 +260,5 @@ pub(crate) fn next_place(log: &[u8], view: View, place: Place) -> Place {
         next.number = std::num::wrapping_add_usize(place.number, 1);
         return next;
     };
-    onward(view, place, entry, at)
+    onward(log, view, place, entry, at)
 }

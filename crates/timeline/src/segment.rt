@@ -1,5 +1,6 @@
 // The time from one entry to the next: the bar of the state, the marks of the time axis, the windows in which the joining and the invitation timer end, and
 // the strip that stands for a long time without an entry.
+use crate::lanes::axis;
 use crate::lanes::lane;
 use crate::place::INVITED;
 use crate::place::JOINING;
@@ -24,7 +25,7 @@ use drawing::end_text;
 use drawing::finish;
 use drawing::line;
 use drawing::rectangle;
-use drawing::shape;
+use drawing::repeated_shape;
 use drawing::write_form;
 use log_words::entry::write_clock;
 use log_words::entry::write_seconds;
@@ -38,16 +39,16 @@ fn shade(descriptor: i32, state: u8, x: u64, y: u64, width: u64) {
     match state {
         0 => begin_rectangle(descriptor, b"idle", x, y, width, 12),
         3 => begin_rectangle(descriptor, b"on", x, y, width, 12),
-        7 => begin_rectangle(descriptor, b"on", x, y, width, 12),
+        7..=13 => begin_rectangle(descriptor, b"on", x, y, width, 12),
         _ => begin_rectangle(descriptor, b"way", x, y, width, 12),
     }
 }
 
 // A state that lasts no time still shows.
-fn draw_bar(descriptor: i32, y: u64, before: Place, after: Place) {
+fn draw_bar(descriptor: i32, view: View, y: u64, before: Place, after: Place) {
     let x = before.x / 1000;
     let width = greater(2, less(after.x / 1000, x));
-    let top = sum(lane(y, before.state), 3);
+    let top = sum(lane(view, y, before.state), 3);
     shade(descriptor, before.state, x, top, width);
     write_form(
         descriptor,
@@ -95,10 +96,10 @@ fn draw_ticks(descriptor: i32, view: View, y: u64, place: Place, time: u64) {
 
 fn draw_tick(descriptor: i32, view: View, y: u64, place: Place, tick: u64) {
     let x = sum(place.x, along(view.scale, less(tick, place.time))) / 1000;
-    let axis = lane(y, 8);
-    line(descriptor, b"grid", x, lane(y, 0), x, axis);
-    line(descriptor, b"axis", x, axis, x, sum(axis, 5));
-    begin_text(descriptor, b"m", x, sum(axis, 16));
+    let bottom = axis(view, y);
+    line(descriptor, b"grid", x, lane(view, y, 0), x, bottom);
+    line(descriptor, b"axis", x, bottom, x, sum(bottom, 5));
+    begin_text(descriptor, b"m", x, sum(bottom, 16));
     write_seconds(descriptor, tick);
     end_text(descriptor);
 }
@@ -107,7 +108,7 @@ fn draw_tick(descriptor: i32, view: View, y: u64, place: Place, tick: u64) {
 
 // The parts of both windows that lie within the drawn time. `room` is where the lanes are free to.
 fn draw_windows(descriptor: i32, view: View, y: u64, place: Place, time: u64, room: u64) {
-    let invited = lane(y, INVITED);
+    let invited = lane(view, y, INVITED);
     draw_window(
         descriptor,
         view.scale,
@@ -118,7 +119,7 @@ fn draw_windows(descriptor: i32, view: View, y: u64, place: Place, time: u64, ro
         time,
         room,
     );
-    let joining = lane(y, JOINING);
+    let joining = lane(view, y, JOINING);
     draw_window(
         descriptor,
         view.scale,
@@ -195,7 +196,7 @@ fn draw_end(descriptor: i32, view: View, y: u64, before: Place, after: Place) {
     let window = view.invitation;
     let ends = sum(watch.start, window.least) == after.time;
     if watch.running & ends & (window.least == window.greatest) {
-        let top = lane(y, INVITED);
+        let top = lane(view, y, INVITED);
         let x = after.x / 1000;
         draw_hatched(descriptor, view.scale, top, x, after.time, after.time);
     }
@@ -204,13 +205,21 @@ fn draw_end(descriptor: i32, view: View, y: u64, before: Place, after: Place) {
 // ---- a long time without an entry
 
 // The strip ends at `end`; a jagged line on both sides says that the axis is cut.
-fn draw_strip(descriptor: i32, y: u64, end: u64, delta: u64) {
-    let top = lane(y, 0);
+fn draw_strip(descriptor: i32, view: View, y: u64, end: u64, delta: u64) {
+    let top = lane(view, y, 0);
+    let height = less(axis(view, y), top);
     let x = less(end, STRIP - 6);
-    let middle = sum(top, 72);
-    rectangle(descriptor, b"strip", x, less(top, 2), STRIP - 12, 148);
-    draw_edge(descriptor, x, top);
-    draw_edge(descriptor, less(end, 6), top);
+    let middle = sum(top, height / 2);
+    rectangle(
+        descriptor,
+        b"strip",
+        x,
+        less(top, 2),
+        STRIP - 12,
+        sum(height, 4),
+    );
+    draw_edge(descriptor, x, top, view.lanes);
+    draw_edge(descriptor, less(end, 6), top, view.lanes);
     begin_upright_text(descriptor, b"m", sum(x, 19), middle);
     write_text(descriptor, b"no entry for");
     end_text(descriptor);
@@ -219,14 +228,9 @@ fn draw_strip(descriptor: i32, y: u64, end: u64, delta: u64) {
     end_text(descriptor);
 }
 
-fn draw_edge(descriptor: i32, x: u64, top: u64) {
-    shape(
-        descriptor,
-        b"edge",
-        x,
-        top,
-        b"l3 5l-6 9l3 4l3 5l-6 9l3 4l3 5l-6 9l3 4l3 5l-6 9l3 4l3 5l-6 9l3 4l3 5l-6 9l3 4l3 5l-6 9l3 4l3 5l-6 9l3 4",
-    );
+// A jag is as high as a lane.
+fn draw_edge(descriptor: i32, x: u64, top: u64, lanes: u8) {
+    repeated_shape(descriptor, b"edge", x, top, b"l3 5l-6 9l3 4", lanes);
 }
 
 // ---- all of it
@@ -242,13 +246,13 @@ pub(crate) fn draw_segment(
     let time = shown(before, delta);
     let end = after.x / 1000;
     draw_ticks(descriptor, view, y, before, time);
-    draw_bar(descriptor, y, before, after);
+    draw_bar(descriptor, view, y, before, after);
     if !is_cut(delta) {
         draw_windows(descriptor, view, y, before, time, end);
         return;
     }
     draw_windows(descriptor, view, y, before, time, less(end, STRIP));
-    draw_strip(descriptor, y, end, delta);
+    draw_strip(descriptor, view, y, end, delta);
     draw_end(descriptor, view, y, before, after);
 }
 
@@ -272,7 +276,7 @@ pub(crate) fn draw_tail(descriptor: i32, view: View, y: u64, place: Place) {
         descriptor,
         b"open",
         place.x / 1000,
-        sum(lane(y, place.state), 3),
+        sum(lane(view, y, place.state), 3),
         15,
         12,
     );

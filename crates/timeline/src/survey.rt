@@ -1,4 +1,6 @@
 // The first pass over a log: how many entries can be read, which joining and which invitation timers their times leave, and how wide the picture would be.
+use crate::lanes::is_strange;
+use crate::lanes::lanes_of;
 use crate::place::INVITED;
 use crate::place::JOINING;
 use crate::place::LEAD;
@@ -61,6 +63,8 @@ pub(crate) struct Survey {
     // The time that would be drawn in one band, in milliseconds, and the strips for what is not.
     pub drawn: u64,
     pub strips: u64,
+    // Whether an entry claims a state that the table does not have.
+    pub strange: bool,
     // Whether the entry behind it can't be read, and the place of the field at which reading stopped.
     pub broken: bool,
     pub fault: usize,
@@ -74,6 +78,7 @@ pub(crate) fn survey_log(table: Table, log: &[u8], at: usize) -> Survey {
         invitation: Bounds::INVITATION,
         drawn: 0,
         strips: 0,
+        strange: false,
         broken: false,
         fault: 0,
     };
@@ -102,15 +107,15 @@ fn survey_next(table: Table, log: &[u8], found: Survey) -> Survey {
             broken.fault = fault;
             broken
         }
-        Found::Read(entry, at) => survey_entry(table, found, entry, at),
+        Found::Read(entry, at) => survey_entry(table, log, found, entry, at),
     }
 }
 
 // Behind an entry, which ends at byte `at`.
-fn survey_entry(table: Table, found: Survey, entry: Entry, at: usize) -> Survey {
+fn survey_entry(table: Table, log: &[u8], found: Survey, entry: Entry, at: usize) -> Survey {
     let place = found.place;
     let delta = entry.delta as u64;
-    let next = onward(unscaled(table), place, entry, at);
+    let next = onward(log, unscaled(table), place, entry, at);
     let joining = narrowed(
         found.joining,
         place.joining,
@@ -129,6 +134,7 @@ fn survey_entry(table: Table, found: Survey, entry: Entry, at: usize) -> Survey 
         invitation,
         drawn: sum(found.drawn, shown(place, delta)),
         strips: sum(found.strips, strips_of(delta)),
+        strange: found.strange | is_strange(table, next.state),
         broken: false,
         fault: 0,
     }
@@ -142,6 +148,7 @@ fn unscaled(table: Table) -> View {
     };
     View {
         table,
+        lanes: 0,
         scale: 8,
         step: 0,
         joining: nothing,
@@ -230,6 +237,7 @@ pub(crate) fn view_of(table: Table, found: Survey) -> View {
     let scale = scale_of(found);
     View {
         table,
+        lanes: lanes_of(table, found.strange),
         scale,
         step: step_of(scale),
         joining: joining_window,

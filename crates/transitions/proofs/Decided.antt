@@ -1,6 +1,6 @@
 -- What sound rows decide.
 use Prim.Native.Nat.{ℕ}
-use mathlib.Core.Path.{_≡_, sym, _∙_}
+use mathlib.Core.Path.{_≡_, refl, sym, _∙_}
 use mathlib.Core.List.{List}
 use mathlib.Core.Bool.{true, false, cond}
 use lib.Dec.{eqb, leb}
@@ -18,7 +18,7 @@ use Rattle.transitions.specs.declared.Decision.{Decision}
 use Rattle.transitions.specs.declared.Decision.the-variants.{Take, NoStep, Ignore, Report, TellStatus, SetParameters}
 use Rattle.transitions.specs.Table.{Row, timersAfter, decidedBy}
 use Rattle.transitions.proofs.Every.{decided-holds}
-use Rattle.transitions.proofs.Sound.{keepsFit, setsFresh, rightly, setsRightly, atMost, isPlain, sendsPlain, Sound}
+use Rattle.transitions.proofs.Sound.{keepsFit, keepsTalk, setsFresh, rightly, setsRightly, atMost, isPlain, sendsPlain, Sound}
 
 -- What holds of a row that is taken; the other decisions take none.
 abbrev pub OfTaken : (Taken → Type 0) → Decision → Type 0
@@ -51,6 +51,10 @@ abbrev pub SetRightly : Context → Taken → Type 0
 SetRightly x d =
     rightly (timerNumber (d .sets)) (runningAmong (x .timers)) (cond (same (d .next) U0) 0 (runningAmong (timersAfter d (x .timers)))) ≡ true
 
+-- The same of what a group call keeps.
+abbrev pub KeepsTalk : Fitness → Context → Taken → Type 0
+KeepsTalk fitness x d = keepsTalk fitness 0 (x .state) (x .timers) (x .remembered) d ≡ true
+
 abbrev pub Keeps : Fitness → Context → Decision → Type 0
 Keeps fitness x (Take d) = keepsFit fitness 0 (x .state) (x .timers) (x .remembered) d ≡ true
 Keeps fitness x NoStep = Unit {0}
@@ -58,6 +62,15 @@ Keeps fitness x Ignore = Unit {0}
 Keeps fitness x (Report cause) = Unit {0}
 Keeps fitness x TellStatus = Unit {0}
 Keeps fitness x SetParameters = same (x .state) U0 ≡ false
+
+-- Only a message, event 18, sets parameters.
+abbrev pub Heard : ℕ → Decision → Type 0
+Heard n (Take d) = Unit {0}
+Heard n NoStep = Unit {0}
+Heard n Ignore = Unit {0}
+Heard n (Report cause) = Unit {0}
+Heard n TellStatus = Unit {0}
+Heard n SetParameters = eqb n 18 ≡ true
 
 module _ (fitness : Fitness) (most : ℕ) (table : List Row) (sound : Sound fitness most table) (x : Context) where
   -- Actions are at most their sum.
@@ -74,6 +87,12 @@ module _ (fitness : Fitness) (most : ℕ) (table : List Row) (sound : Sound fitn
   pub decided-keeps : (n code : ℕ) → Keeps fitness x (decidedBy table x n code)
   decided-keeps = decided-holds (keepsFit fitness) (λ k. Keeps fitness x) x (λ k d e. e) (λ k. tt) (λ cause. tt) table (sound .fit-kept) (λ u. tt) tt (λ u. u)
 
+  pub decided-talk : (n code : ℕ) → OfTaken (KeepsTalk fitness x) (decidedBy table x n code)
+  decided-talk = decided-holds (keepsTalk fitness) (λ k. OfTaken (KeepsTalk fitness x)) x (λ k d e. e) (λ k. tt) (λ cause. tt) table (sound .talk-kept) (λ u. tt) tt (λ u. tt)
+
+  pub decided-heard : (n code : ℕ) → Heard n (decidedBy table x n code)
+  decided-heard = decided-holds (atMost most) Heard x (λ k d e. tt) (λ k. tt) (λ cause. tt) table (sound .actions-few) (λ u. tt) tt (λ u. refl)
+
   -- No timer is set anew while it runs: in a fit context a row that is taken sets none that runs.
   pub sets-fresh : fitBy fitness x ≡ true → (n code : ℕ) → OfTaken (λ d. isOn (d .sets) (x .timers) ≡ false) (decidedBy table x n code)
   sets-fresh fit =
@@ -84,6 +103,10 @@ module _ (fitness : Fitness) (most : ℕ) (table : List Row) (sound : Sound fitn
   pub sets-rightly : fitBy fitness x ≡ true → (n code : ℕ) → OfTaken (SetRightly x) (decidedBy table x n code)
   sets-rightly fit =
       decided-holds (setsRightly fitness) (λ k. OfTaken (SetRightly x)) x (λ k d e. if-so _ _ e (fit-timers fitness x fit)) (λ k. tt) (λ cause. tt) table (sound .set-rightly) (λ u. tt) tt (λ u. tt)
+
+  -- No row sends a STATUS of its own.
+  pub decided-plain : (n code : ℕ) → OfTaken (λ d. isPlain (d .sends) ≡ true) (decidedBy table x n code)
+  decided-plain = decided-holds sendsPlain (λ k. OfTaken (λ d. isPlain (d .sends) ≡ true)) x (λ k d e. e) (λ k. tt) (λ cause. tt) table (sound .sent-plain) (λ u. tt) tt (λ u. tt)
 
   pub event-plain : (n code : ℕ) → eqb n 18 ≡ false → Plain (decidedBy table x n code)
   event-plain =

@@ -9,7 +9,7 @@ use Rattle.timer.specs.declared.Timers.{Timers}
 use Rattle.timer.specs.declared.Timer.the-variants.{NoTimer}
 use Rattle.timer.specs.Timers.{isOn}
 use Rattle.timer.proofs.Whole.{and-left, and-right}
-use Rattle.transitions.specs.declared.Stores.the-variants.{ValueAndReference, ItsReference}
+use Rattle.transitions.specs.declared.Stores.the-variants.{ValueAndReference, ItsReference, ItsReferenceAndOriginator}
 use Rattle.transitions.specs.declared.Taken.{Taken}
 use Rattle.transitions.specs.Table.{
   Effect,
@@ -19,7 +19,9 @@ use Rattle.transitions.specs.Table.{
   set-unless-running,
   store-value-and-reference,
   store-its-reference,
+  store-its-reference-and-originator,
   mind,
+  note,
   adding,
   addingAll,
 }
@@ -34,7 +36,9 @@ module _ (t : Timers) where
   Shows d (set-unless-running k) = d .sets ≡ cond (isOn k t) NoTimer k
   Shows d store-value-and-reference = d .stores ≡ ValueAndReference
   Shows d store-its-reference = d .stores ≡ ItsReference
+  Shows d store-its-reference-and-originator = d .stores ≡ ItsReferenceAndOriginator
   Shows d (mind m) = d .memory ≡ m
+  Shows d (note n) = d .note ≡ n
 
   abbrev pub ShowsAll : Taken → List Effect → Type 0
   ShowsAll d [] = Unit {0}
@@ -42,64 +46,98 @@ module _ (t : Timers) where
 
   here : (e : Effect) (d : Taken) → Shows (adding t e d) e
   here (send m) d = refl
-  here (stop k) d = refl
-  here (set k) d = refl
-  here (set-unless-running k) d = refl
+  here (stop m) d = refl
+  here (set m) d = refl
+  here (set-unless-running m) d = refl
   here store-value-and-reference d = refl
   here store-its-reference d = refl
+  here store-its-reference-and-originator d = refl
   here (mind m) d = refl
+  here (note m) d = refl
 
   -- One of another kind leaves it there.
   beside : (f e : Effect) (d : Taken) → eqb (kindOf f) (kindOf e) ≡ false → Shows d e → Shows (adding t f d) e
   beside (send l) (send m) d n c = never (sym n)
-  beside (send l) (stop k) d n c = c
-  beside (send l) (set k) d n c = c
-  beside (send l) (set-unless-running k) d n c = c
+  beside (send l) (stop m) d n c = c
+  beside (send l) (set m) d n c = c
+  beside (send l) (set-unless-running m) d n c = c
   beside (send l) store-value-and-reference d n c = c
   beside (send l) store-its-reference d n c = c
+  beside (send l) store-its-reference-and-originator d n c = c
   beside (send l) (mind m) d n c = c
-  beside (stop j) (send m) d n c = c
-  beside (stop j) (stop k) d n c = never (sym n)
-  beside (stop j) (set k) d n c = c
-  beside (stop j) (set-unless-running k) d n c = c
-  beside (stop j) store-value-and-reference d n c = c
-  beside (stop j) store-its-reference d n c = c
-  beside (stop j) (mind m) d n c = c
-  beside (set j) (send m) d n c = c
-  beside (set j) (stop k) d n c = c
-  beside (set j) (set k) d n c = never (sym n)
-  beside (set j) (set-unless-running k) d n c = never (sym n)
-  beside (set j) store-value-and-reference d n c = c
-  beside (set j) store-its-reference d n c = c
-  beside (set j) (mind m) d n c = c
-  beside (set-unless-running j) (send m) d n c = c
-  beside (set-unless-running j) (stop k) d n c = c
-  beside (set-unless-running j) (set k) d n c = never (sym n)
-  beside (set-unless-running j) (set-unless-running k) d n c = never (sym n)
-  beside (set-unless-running j) store-value-and-reference d n c = c
-  beside (set-unless-running j) store-its-reference d n c = c
-  beside (set-unless-running j) (mind m) d n c = c
+  beside (send l) (note m) d n c = c
+  beside (stop l) (send m) d n c = c
+  beside (stop l) (stop m) d n c = never (sym n)
+  beside (stop l) (set m) d n c = c
+  beside (stop l) (set-unless-running m) d n c = c
+  beside (stop l) store-value-and-reference d n c = c
+  beside (stop l) store-its-reference d n c = c
+  beside (stop l) store-its-reference-and-originator d n c = c
+  beside (stop l) (mind m) d n c = c
+  beside (stop l) (note m) d n c = c
+  beside (set l) (send m) d n c = c
+  beside (set l) (stop m) d n c = c
+  beside (set l) (set m) d n c = never (sym n)
+  beside (set l) (set-unless-running m) d n c = never (sym n)
+  beside (set l) store-value-and-reference d n c = c
+  beside (set l) store-its-reference d n c = c
+  beside (set l) store-its-reference-and-originator d n c = c
+  beside (set l) (mind m) d n c = c
+  beside (set l) (note m) d n c = c
+  beside (set-unless-running l) (send m) d n c = c
+  beside (set-unless-running l) (stop m) d n c = c
+  beside (set-unless-running l) (set m) d n c = never (sym n)
+  beside (set-unless-running l) (set-unless-running m) d n c = never (sym n)
+  beside (set-unless-running l) store-value-and-reference d n c = c
+  beside (set-unless-running l) store-its-reference d n c = c
+  beside (set-unless-running l) store-its-reference-and-originator d n c = c
+  beside (set-unless-running l) (mind m) d n c = c
+  beside (set-unless-running l) (note m) d n c = c
   beside store-value-and-reference (send m) d n c = c
-  beside store-value-and-reference (stop k) d n c = c
-  beside store-value-and-reference (set k) d n c = c
-  beside store-value-and-reference (set-unless-running k) d n c = c
+  beside store-value-and-reference (stop m) d n c = c
+  beside store-value-and-reference (set m) d n c = c
+  beside store-value-and-reference (set-unless-running m) d n c = c
   beside store-value-and-reference store-value-and-reference d n c = never (sym n)
   beside store-value-and-reference store-its-reference d n c = never (sym n)
+  beside store-value-and-reference store-its-reference-and-originator d n c = never (sym n)
   beside store-value-and-reference (mind m) d n c = c
+  beside store-value-and-reference (note m) d n c = c
   beside store-its-reference (send m) d n c = c
-  beside store-its-reference (stop k) d n c = c
-  beside store-its-reference (set k) d n c = c
-  beside store-its-reference (set-unless-running k) d n c = c
+  beside store-its-reference (stop m) d n c = c
+  beside store-its-reference (set m) d n c = c
+  beside store-its-reference (set-unless-running m) d n c = c
   beside store-its-reference store-value-and-reference d n c = never (sym n)
   beside store-its-reference store-its-reference d n c = never (sym n)
+  beside store-its-reference store-its-reference-and-originator d n c = never (sym n)
   beside store-its-reference (mind m) d n c = c
+  beside store-its-reference (note m) d n c = c
+  beside store-its-reference-and-originator (send m) d n c = c
+  beside store-its-reference-and-originator (stop m) d n c = c
+  beside store-its-reference-and-originator (set m) d n c = c
+  beside store-its-reference-and-originator (set-unless-running m) d n c = c
+  beside store-its-reference-and-originator store-value-and-reference d n c = never (sym n)
+  beside store-its-reference-and-originator store-its-reference d n c = never (sym n)
+  beside store-its-reference-and-originator store-its-reference-and-originator d n c = never (sym n)
+  beside store-its-reference-and-originator (mind m) d n c = c
+  beside store-its-reference-and-originator (note m) d n c = c
   beside (mind l) (send m) d n c = c
-  beside (mind l) (stop k) d n c = c
-  beside (mind l) (set k) d n c = c
-  beside (mind l) (set-unless-running k) d n c = c
+  beside (mind l) (stop m) d n c = c
+  beside (mind l) (set m) d n c = c
+  beside (mind l) (set-unless-running m) d n c = c
   beside (mind l) store-value-and-reference d n c = c
   beside (mind l) store-its-reference d n c = c
+  beside (mind l) store-its-reference-and-originator d n c = c
   beside (mind l) (mind m) d n c = never (sym n)
+  beside (mind l) (note m) d n c = c
+  beside (note l) (send m) d n c = c
+  beside (note l) (stop m) d n c = c
+  beside (note l) (set m) d n c = c
+  beside (note l) (set-unless-running m) d n c = c
+  beside (note l) store-value-and-reference d n c = c
+  beside (note l) store-its-reference d n c = c
+  beside (note l) store-its-reference-and-originator d n c = c
+  beside (note l) (mind m) d n c = c
+  beside (note l) (note m) d n c = never (sym n)
 
   first-false : (a b : Bool) → (a || b) ≡ false → a ≡ false
   first-false true b e = e

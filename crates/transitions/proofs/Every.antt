@@ -27,6 +27,7 @@ use Rattle.transitions.specs.Table.{
   nothing,
   ORIG,
   running,
+  pending,
   Place,
   Next,
   Actions,
@@ -59,6 +60,7 @@ abbrev pub possible : Asked → Timers → Bool
 possible nothing t = true
 possible ORIG t = true
 possible (running k) t = isOn k t
+possible pending t = true
 
 -- The test at a place, whichever timers run and whatever is remembered.
 abbrev atPlace : Test → Place → ℕ → Next → Actions → List Effect → Bool
@@ -94,6 +96,7 @@ met-possible : (a : Asked) (x : Context) → met a x ≡ true → possible a (x 
 met-possible nothing x m = refl
 met-possible ORIG x m = refl
 met-possible (running k) x m = m
+met-possible pending x m = refl
 
 -- The section is over the test, what it is to show of a decision, and what holds of the decisions that are no row.
 module _ (test : Test) (P : ℕ → Decision → Type 0) (x : Context) (takes : (n : ℕ) (d : Taken) → test n (x .state) (x .timers) (x .remembered) d ≡ true → P n (Take d))

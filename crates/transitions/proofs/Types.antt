@@ -43,26 +43,20 @@ types =
 abbrev pub isType : ℕ → Bool
 isType code = rows code false types
 
+-- Each of what stands in a list by its type is of one of them.
+abbrev keyed : List (ℕ × Decision) → Bool
+keyed [] = true
+keyed (r ∷ rs) = isType (r .0) && keyed rs
+
 -- Each row of a message is of one of them.
 abbrev pub ofTypes : List Row → Bool
 ofTypes [] = true
 ofTypes (row places (event n) next actions effects ∷ more) = ofTypes more
 ofTypes (row places (message code) next actions effects ∷ more) = isType code && ofTypes more
 
-module _ (s : State) (x : Context) (code : ℕ) (none : false ≡ isType code) where
+module _ (code : ℕ) (none : false ≡ isType code) where
   apart : (k : ℕ) → isType k ≡ true → code ≡ k → ⊥
   apart k i e = never (none ∙ ap isType e ∙ i)
-
-  placed : (places : List Place) (k : ℕ) (takes : Decision) (more : List (ℕ × Decision)) → (code ≡ k → ⊥) → Absent code more
-      → Absent code (inPlace s x places takes (Report 98) (λ d. (k, d) ∷ more) more)
-  placed [] k takes more n a = a
-  placed (p ∷ ps) k takes more n a = at-cond (Absent code) (same s (p .0)) _ _ (λ e. (n, a)) (λ e. placed ps k takes more n a)
-
-  absent : (table : List Row) → ofTypes table ≡ true → Absent code (messagesIn s x table)
-  absent [] e = tt
-  absent (row places (event n) next actions effects ∷ more) e = absent more e
-  absent (row places (message k) next actions effects ∷ more) e =
-      placed places k _ (messagesIn s x more) (apart k (and-left (isType k) _ e)) (absent more (and-right (isType k) _ e))
 
   -- Those with a sentence, and all of them.
   absent-else : Absent code (sentences ++ incompatible)
@@ -90,6 +84,26 @@ module _ (s : State) (x : Context) (code : ℕ) (none : false ≡ isType code) w
   joined [] qs a b = b
   joined (r ∷ rs) qs a b = (a .0, joined rs qs (a .1) b)
 
+  absent-keyed : (rs : List (ℕ × Decision)) → keyed rs ≡ true → Absent code rs
+  absent-keyed [] e = tt
+  absent-keyed (r ∷ rs) e = (apart (r .0) (and-left (isType (r .0)) _ e), absent-keyed rs (and-right (isType (r .0)) _ e))
+
+  -- Among rows of types, before those that every state has.
+  pub no-such : (rs : List (ℕ × Decision)) → keyed rs ≡ true → Report 97 ≡ rows code (Report 97) (rs ++ (sentences ++ incompatible))
+  no-such rs e = other code (Report 97) (rs ++ (sentences ++ incompatible)) (joined rs _ (absent-keyed rs e) absent-else)
+
+module _ (s : State) (x : Context) (code : ℕ) (none : false ≡ isType code) where
+  placed : (places : List Place) (k : ℕ) (takes : Decision) (more : List (ℕ × Decision)) → (code ≡ k → ⊥) → Absent code more
+      → Absent code (inPlace s x places takes (Report 98) (λ d. (k, d) ∷ more) more)
+  placed [] k takes more n a = a
+  placed (p ∷ ps) k takes more n a = at-cond (Absent code) (same s (p .0)) _ _ (λ e. (n, a)) (λ e. placed ps k takes more n a)
+
+  absent : (table : List Row) → ofTypes table ≡ true → Absent code (messagesIn s x table)
+  absent [] e = tt
+  absent (row places (event n) next actions effects ∷ more) e = absent more e
+  absent (row places (message k) next actions effects ∷ more) e =
+      placed places k _ (messagesIn s x more) (apart code none k (and-left (isType k) _ e)) (absent more (and-right (isType k) _ e))
+
   pub no-type : (table : List Row) → ofTypes table ≡ true → same s U0 ≡ false → Report 97 ≡ heardIn table s x code
   unfolding heardIn
-  no-type table e u = rw u (other code (Report 97) (typesIn table s x) (joined (messagesIn s x table) _ (absent table e) absent-else))
+  no-type table e u = rw u (other code (Report 97) (typesIn table s x) (joined code none (messagesIn s x table) _ (absent table e) (absent-else code none)))

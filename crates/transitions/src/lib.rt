@@ -19,6 +19,8 @@ pub enum Stores {
     Nothing,
     ValueAndReference,
     ItsReference,
+    // CONNECT in a group call: its reference, and whether it names us as originator.
+    ItsReferenceAndOriginator,
 }
 
 // What becomes of what is remembered: it stays, the state that is left is remembered, or it is forgotten.
@@ -28,7 +30,17 @@ pub enum Memory {
     Forget,
 }
 
-// A row that is taken: next state, actions, what is sent, the timer that is stopped, the timer that is set, what is stored, and what is remembered.
+// What a row of a group call notes: which side chose the transaction value, that a termination request or a STATUS is pending, or that the request is no longer.
+pub enum Note {
+    Nothing,
+    WeChose,
+    CellChose,
+    TerminationPends,
+    StatusPends,
+    TerminationDropped,
+}
+
+// A row that is taken: next state, actions, what is sent, the timer that is stopped, the timer that is set, what is stored, what is remembered, and what is noted.
 // "Set unless running" sets none where the timer runs. The next state is a state: where a row returns to one that was remembered, whoever decides knows which.
 pub struct Taken {
     pub next: State,
@@ -38,6 +50,7 @@ pub struct Taken {
     pub sets: Timer,
     pub stores: Stores,
     pub memory: Memory,
+    pub note: Note,
 }
 
 pub enum Decision {

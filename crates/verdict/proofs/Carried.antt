@@ -22,8 +22,10 @@ use Rattle.call.specs.declared.Settled.{Settled}
 use Rattle.call.specs.Due.{settledBy, settled}
 use Rattle.call.specs.Events.{seenOf}
 use Rattle.call.specs.Step.{noStep, carriedOut, stepBy}
+use Rattle.codes.specs.declared.protocol.Protocol.{Protocol}
+use Rattle.version.specs.Version.{greatestActions, protocolOf}
 use Rattle.reply.specs.declared.Own.{Own}
-use Rattle.reply.specs.Reply.{replyOf}
+use Rattle.reply.proofs.Fits.{plain-reply}
 use Rattle.step_arguments.specs.Arguments.{outOfRange, argumentRefusal}
 use Rattle.radio.specs.declared.Told.{Told}
 use Rattle.radio.specs.declared.Told.the-variants.{Is, NoEvent}
@@ -34,15 +36,6 @@ use Rattle.verdict.specs.Table.{GivenEvent, stepped}
 use Rattle.verdict.specs.Entries.{carriedBy}
 
 -- ---- only the answer to a message copies it
-
-plain-reply : (own : Own) (identity s u : List ℕ) (x : Context) (sends : Send) → isPlain sends ≡ true → replyOf own identity s x sends ≡ replyOf own identity u x sends
-unfolding replyOf
-plain-reply own identity s u x Nothing e = refl
-plain-reply own identity s u x ImmediateSetup e = refl
-plain-reply own identity s u x Setup e = refl
-plain-reply own identity s u x TerminationRequest e = refl
-plain-reply own identity s u x (Status cause) e = never e
-plain-reply own identity s u x (ErrorStatus cause) e = never e
 
 abbrev PlainTaken : Settled → Type 0
 PlainTaken t = isPlain (t .sends) ≡ true
@@ -58,7 +51,7 @@ carried-plain table x SetParameters e p = absurd p
 
 event-plain : (table : Table) (x : Context) (t : Told) → NoMessage t → PlainTaken (settled table x (toldDue t))
 unfolding settledBy toldDue stepBy noStep
-event-plain table x (Is event) h = carried-plain table x _ (seenOf event) (by-rows (fitnessOf table) 63 (stepTable table) (rows-sound table) x (seenOf event .number) (seenOf event .code) h)
+event-plain table x (Is event) h = carried-plain table x _ (seenOf event) (by-rows (fitnessOf table) (greatestActions table) (stepTable table) (rows-sound table) x (seenOf event .number) (seenOf event .code) h)
 event-plain table x NoEvent h = refl
 
 -- ---- the step
@@ -80,8 +73,8 @@ module _ (table : Table) (own : Own) (identity : List ℕ) (x : Context) (e : Gi
   number = e .happened .number
 
   -- Without a message, the octets do not matter.
-  no-octets : (t : Told) → NoMessage t → (s u : List ℕ) → reacted own identity s (settled table x (toldDue t)) ≡ reacted own identity u (settled table x (toldDue t))
-  no-octets t h s u = rw (plain-reply own identity s u (settled table x (toldDue t) .context) (settled table x (toldDue t) .sends) (event-plain table x t h))
+  no-octets : (t : Told) → NoMessage t → (s u : List ℕ) → reacted (protocolOf table) own identity s (settled table x (toldDue t)) ≡ reacted (protocolOf table) own identity u (settled table x (toldDue t))
+  no-octets t h s u = rw (plain-reply (protocolOf table) own identity s u (settled table x (toldDue t) .context) (settled table x (toldDue t) .sends) (settled table x (toldDue t) .sent) (event-plain table x t h))
 
   -- Without a call, the value and the reference do not matter.
   no-call : carriesCall number ≡ false → (v w : ℕ) (r q : Reference) → eventOf number v r ≡ eventOf number w q

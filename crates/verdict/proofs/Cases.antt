@@ -1,26 +1,27 @@
--- Document 01, "Cases": c1 to c10, logs as bytes and what the judge answers, in one table; and behind them logs with an invitation timer.
+-- Document 01, "Cases": c1 to c10, logs as bytes and what the judge answers, in one table; behind them logs with an invitation timer, and logs of a group call.
 use Prim.Native.Nat.{ℕ}
 use mathlib.Core.Path.{_≡_, refl}
 use mathlib.Core.List.{List, [], _∷_, _++_}
 use Rattle.codes.specs.Attributes.{weighs}
 use Rattle.context.specs.Remembered.{remembering, returning}
-use Rattle.context.specs.Context.{startRow, entering, cleared}
-use Rattle.fitness.specs.Fitness.{consistentBy, timersFitBy, rememberedFitBy, isCleared, fitBy}
+use Rattle.context.specs.Context.{startRow, setRow, entering, cleared}
+use Rattle.fitness.specs.Fitness.{consistentBy, timersFitBy, rememberedFitBy, chooserFitBy, pendingFitBy, talkFitBy, isCleared, fitBy}
 use Rattle.fitness.specs.Tables.{fitnessOf}
 use Rattle.timer.specs.Timers.{runningAmong, expiryOf, lengthOf, withTimer}
 use Rattle.transitions.specs.Table.{stepTable, heardIn, happenedIn, decidedIn, decidedBy}
 use Rattle.call.specs.Due.{settledBy}
 use Rattle.call.specs.Events.{seenOf}
+use Rattle.call.specs.Talk.{adopted, originating, noted, awaitingAfter, sentIn, flushed}
 use Rattle.call.specs.Step.{parametersAfter, valueAfter, referenceAfter, afterwards, ignored, noStep, carriedOut, stepBy}
 use Rattle.reply.specs.declared.Own.{Own}
-use Rattle.reply.specs.Reply.{replyOf}
+use Rattle.reply.specs.Reply.{ownOf, statusDue, requestDue, replyOf}
 use Rattle.received.specs.Received.{sameOctets}
 use Rattle.received.specs.Due.{dueOf}
 use Rattle.step_arguments.specs.Arguments.{settingsOut, outOfRange, argumentRefusal}
 use Rattle.radio.specs.Step.{eventOf, toldDue, dueTo, reactedTo, fitnessRefusal, refusalOf, stepOf}
 use Rattle.log_number.specs.Number.{joined, groupsAt, numberAt, upTo}
 use Rattle.log_data.specs.Reading.{carriesCall, callAt, receivedAt, dataAt}
-use Rattle.version.specs.Version.{tableOf, greatestEvent, greatestState, greatestActions}
+use Rattle.version.specs.Version.{tableOf, hasEvent, greatestState, greatestActions, protocolOf}
 use Rattle.log_field.specs.Reading.{smallAt, runAt}
 use Rattle.log_claim.specs.Reading.{claimAt}
 use Rattle.log.specs.Reading.{restAt, entryAt}
@@ -80,6 +81,16 @@ forgotten = 0x13 ∷ 0x00 ∷ 0x00 ∷ 0x00 ∷ 0x00 ∷ 0x00 ∷ []
 abbrev forgottenAt60000 : List ℕ
 forgottenAt60000 = notified ++ (0xE0 ∷ 0xD4 ∷ 0x03 ∷ forgotten)
 
+-- In a group call: group receive mode entered after 20,000 ms: U2r, parameters 2, action 1.
+abbrev listening : List ℕ
+listening = notified ++ (joins ++ (0xA0 ∷ 0x9C ∷ 0x01 ∷ 0x0B ∷ 0x00 ∷ 0x0A ∷ 0x02 ∷ 0x01 ∷ 0x00 ∷ []))
+
+-- Talk is asked for: U2ws, parameters 3, action 64; transmit mode entered: U2sr, parameters 3; no channel: U2nc, parameters 3; T_no channel expires 3,000 ms on.
+abbrev talking : List ℕ
+talking =
+    (0x00 ∷ 0x21 ∷ 0x00 ∷ 0x0B ∷ 0x03 ∷ 0x40 ∷ 0x00 ∷ [])
+    ++ ((0x00 ∷ 0x22 ∷ 0x00 ∷ 0x0C ∷ 0x03 ∷ 0x00 ∷ 0x00 ∷ []) ++ ((0x00 ∷ 0x0C ∷ 0x00 ∷ 0x0D ∷ 0x03 ∷ 0x00 ∷ 0x00 ∷ []) ++ (0xB8 ∷ 0x17 ∷ noChannelExpires)))
+
 -- Each log with the answer's number and values.
 abbrev pub cases : List (List ℕ × ℕ × List ℕ)
 cases =
@@ -105,6 +116,13 @@ cases =
     (0x02 ∷ (notified ++ (0xC1 ∷ 0xCF ∷ 0x24 ∷ join)), 0, 2 ∷ 10000 ∷ 30000 ∷ []) ∷  -- and version 2 has none
     (0x02 ∷ forgottenAt60000, 8, 2 ∷ []) ∷  -- nor the event of its expiry
     (0x03 ∷ 0x00 ∷ 0x13 ∷ 0x03 ∷ 0x00 ∷ 0x00 ∷ 0x00 ∷ 0x00 ∷ [], 0, 1 ∷ 10000 ∷ 30000 ∷ 1000 ∷ 600000 ∷ []) ∷  -- which has no step in U0
+    (0x10 ∷ [], 0, 0 ∷ 10000 ∷ 30000 ∷ []) ∷  -- version 16, a group call: the joining timer alone is told
+    (0x10 ∷ 0x00 ∷ 0x03 ∷ 0x03 ∷ 0x00 ∷ 0x00 ∷ 0x00 ∷ 0x00 ∷ [], 0, 1 ∷ 10000 ∷ 30000 ∷ []) ∷
+    (0x10 ∷ (listening ++ talking), 0, 7 ∷ 20000 ∷ 30000 ∷ []) ∷  -- listens after 20,000 ms, talks, and loses the channel for 3,000 ms,
+    (0x10 ∷ (listening ++ (talking ++ (0x00 ∷ noChannelExpires))), 9, 8 ∷ []) ∷  -- which is over with the call
+    (0x10 ∷ (notified ++ (joins ++ (0xA0 ∷ 0x9C ∷ 0x01 ∷ entered))), 9, 3 ∷ []) ∷  -- U6 is no state of a group call
+    (0x10 ∷ 0x00 ∷ 0x13 ∷ 0x03 ∷ 0x00 ∷ 0x00 ∷ 0x00 ∷ 0x00 ∷ [], 8, 1 ∷ []) ∷  -- nor is 19 one of its events
+    (0x03 ∷ 0x00 ∷ 0x20 ∷ 0x03 ∷ 0x00 ∷ 0x00 ∷ 0x00 ∷ 0x00 ∷ [], 8, 1 ∷ []) ∷  -- and 32 is none of a broadcast call
     []
 
 -- Each log of a table is answered so.
@@ -114,5 +132,5 @@ Answered (c ∷ cs) =
     ((answerNumber (judgeOf own identity (c .0)) ≡ c .1) × (answerValues (judgeOf own identity (c .0)) ≡ c .2)) × Answered cs
 
 pub all-cases : Answered cases
-unfolding judgeOf versionJudged invitationTold tellsInvitation tableOf settingsOut judgeTwo judge judgeFrom turn narrow entries entriesIn numberAt groupsAt joined upTo smallAt runAt callAt receivedAt dataAt claimAt restAt entryAt greatestEvent greatestState greatestActions carriesCall agree parametersNumber weighs stepOf refusalOf fitnessRefusal argumentRefusal outOfRange reactedTo dueTo eventOf toldDue settledBy stepBy seenOf carriedOut decidedBy decidedIn stepTable heardIn happenedIn noStep ignored afterwards withTimer parametersAfter entering startRow valueAfter referenceAfter cleared fitBy consistentBy timersFitBy rememberedFitBy isCleared runningAmong remembering returning expiryOf lengthOf replyOf dueOf sameOctets fitnessOf
-all-cases = ((refl, refl), ((refl, refl), ((refl, refl), ((refl, refl), ((refl, refl), ((refl, refl), ((refl, refl), ((refl, refl), ((refl, refl), ((refl, refl), ((refl, refl), ((refl, refl), ((refl, refl), ((refl, refl), ((refl, refl), ((refl, refl), ((refl, refl), ((refl, refl), ((refl, refl), ((refl, refl), ((refl, refl), ((refl, refl), tt))))))))))))))))))))))
+unfolding judgeOf versionJudged invitationTold tellsInvitation tableOf settingsOut judgeTwo judge judgeFrom turn narrow entries entriesIn numberAt groupsAt joined upTo smallAt runAt callAt receivedAt dataAt claimAt restAt entryAt hasEvent greatestState greatestActions carriesCall agree parametersNumber weighs stepOf refusalOf fitnessRefusal argumentRefusal outOfRange reactedTo dueTo eventOf toldDue settledBy stepBy seenOf carriedOut decidedBy decidedIn stepTable heardIn happenedIn noStep ignored afterwards withTimer parametersAfter entering startRow setRow valueAfter referenceAfter cleared fitBy consistentBy timersFitBy rememberedFitBy chooserFitBy pendingFitBy talkFitBy isCleared runningAmong remembering returning expiryOf lengthOf replyOf ownOf statusDue requestDue dueOf sameOctets fitnessOf protocolOf adopted originating noted awaitingAfter sentIn flushed
+all-cases = ((refl, refl), ((refl, refl), ((refl, refl), ((refl, refl), ((refl, refl), ((refl, refl), ((refl, refl), ((refl, refl), ((refl, refl), ((refl, refl), ((refl, refl), ((refl, refl), ((refl, refl), ((refl, refl), ((refl, refl), ((refl, refl), ((refl, refl), ((refl, refl), ((refl, refl), ((refl, refl), ((refl, refl), ((refl, refl), ((refl, refl), ((refl, refl), ((refl, refl), ((refl, refl), ((refl, refl), ((refl, refl), ((refl, refl), tt)))))))))))))))))))))))))))))

@@ -22,7 +22,8 @@ use Rattle.fitness.specs.Tables.{fitnessOf, timersFit, fitOf}
 use Rattle.fitness.proofs.Tables.{fit-timers, cleared-fit}
 use Rattle.reply.specs.declared.Own.{Own}
 use Rattle.version.specs.declared.Table.{Table}
-use Rattle.version.specs.declared.Table.the-variants.{First, Second, Third}
+use Rattle.version.specs.declared.Table.the-variants.{First, Second, Third, Group}
+use Rattle.version.specs.Version.{protocolOf}
 use Rattle.table.specs.Log.{WellFormed}
 use Rattle.table.specs.Timers.{Interval, Within}
 use Rattle.table.specs.Verdict.{Verdict, accepted, unreadable, unexplained, IsAccepted}
@@ -48,10 +49,11 @@ abbrev otherRuns : Table → State → Timers → Bool
 otherRuns table s t = not (timersFit table s t) || not (eqb (runningAmong t) (timerNumber Pres))
 
 other-runs : (table : Table) → tellsInvitation table ≡ false → inStates (λ s. ofTimers (otherRuns table s)) ≡ true
-unfolding tellsInvitation timersFitBy fitnessOf runningAmong
+unfolding tellsInvitation timersFitBy fitnessOf protocolOf runningAmong
 other-runs First q = refl
 other-runs Second q = refl
 other-runs Third q = never (sym q)
+other-runs Group q = refl
 
 module _ (table : Table) (untold : tellsInvitation table ≡ false) (own : Own) (identity : List ℕ) where
   pub never-invited : NeverRuns (steps table own identity) (invitation .timer)

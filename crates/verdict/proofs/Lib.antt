@@ -9,3 +9,4 @@ pub mod Recorder
 pub mod Recordable
 pub mod Start
 pub mod Cases
+pub mod GroupRun

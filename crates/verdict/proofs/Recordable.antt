@@ -1,31 +1,33 @@
 -- The recorder refuses no true step: what a step answered 0 to 3 gives is in range. So the recorder never answers 4 to it, where the delta is in range
 -- and no more bytes are used than the buffer has: those two are the host's.
 use Prim.Native.Nat.{ℕ, _+_, _≤_, _<_}
-use mathlib.Core.Path.{_≡_, refl, ap, subst}
-use mathlib.Core.Bool.{Bool, true, false, _&&_}
+use mathlib.Core.Path.{_≡_, refl, ap}
+use mathlib.Core.Bool.{Bool, true, false, not, _&&_, _||_}
 use mathlib.Core.List.{List, [], _∷_, _++_}
 use native.Mathlib.Omega.{arith}
-use lib.Dec.{eqb, ltb}
+use lib.Dec.{eqb, leb, ltb}
 use lib.ListN.{length}
 use borrow.Author.Tests.{leb-true, ltb-false, eqb-true, eqb-false, le-leb, le-ltb}
 use Rattle.octets.proofs.Choice.{at-cond}
 use Rattle.codes.specs.declared.state.State.{State}
-use Rattle.codes.specs.declared.state.State.the-variants.{U0, U0p, U1, U2, U3, U4, U5, U6}
 use Rattle.codes.specs.declared.attributes.Parameters.{Parameters}
 use Rattle.codes.specs.Attributes.{weighs}
 use Rattle.context.specs.declared.Context.{Context}
-use Rattle.context.specs.States.{numberOf}
+use Rattle.context.specs.States.{numberOf, among}
+use Rattle.context.proofs.Whole.{if-so, inStates, at-state}
+use Rattle.fitness.specs.Tables.{fitnessOf}
+use Rattle.fitness.proofs.Tables.{fit-known}
 use Rattle.reply.specs.declared.Own.{Own}
 use Rattle.radio.specs.Step.{refusalOf}
-use Rattle.radio.proofs.Range.{InRange, in-range, refused-over, number-least, number-most, mode-most, value-most}
+use Rattle.radio.proofs.Range.{InRange, in-range, refused-over, number-known, mode-most, value-most}
 use Rattle.radio.proofs.Reacting.{step-by}
-use Rattle.radio.proofs.Answers.{Honest, step-honest, step-short}
+use Rattle.radio.proofs.Answers.{Honest, step-honest, step-keeps-fit, step-short}
 use Rattle.version.specs.declared.Table.{Table}
-use Rattle.version.specs.Version.{greatestEvent, greatestState, greatestActions, longest}
-use Rattle.version.proofs.Tables.{state-so, actions-so}
+use Rattle.version.specs.declared.Table.the-variants.{First, Second, Third, Group}
+use Rattle.version.specs.Version.{hasEvent, greatestState, greatestActions, protocolOf, longest}
 use Rattle.octets.specs.declared.Reference.{Reference}
 use Rattle.log_data.specs.Reading.{carriesCall}
-use Rattle.log.specs.Layout.{Field, number, octets, allInRange, dataFields, claimFields, fields, ranged}
+use Rattle.log.specs.Layout.{Field, number, eventNumber, octets, allInRange, dataFields, claimFields, fields, ranged}
 use Rattle.recorder.specs.Recording.{added, recordAnswer, answerNumber}
 use Rattle.recorder.specs.declared.Recorded.{Recorded}
 use Rattle.recorder.specs.declared.Recorded.the-variants.{Used, OutOfRange, TooLong, NoRoom}
@@ -36,10 +38,14 @@ use Rattle.verdict.specs.Entries.{meantBy}
 
 -- ---- fields in range
 
--- A field more: a number within its range, or octets.
+-- A field more: a number within its range, an event of the table, or octets.
 number-first : (least most n : ℕ) (more : List Field) → least ≤ n → n ≤ most → allInRange more ≡ true → allInRange (number least most n ∷ more) ≡ true
 unfolding allInRange
 number-first least most n more l m r = rw (le-leb least n l, le-leb n most m) r
+
+event-first : (table : Table) (n : ℕ) (more : List Field) → hasEvent table n ≡ true → allInRange more ≡ true → allInRange (eventNumber table n ∷ more) ≡ true
+unfolding allInRange
+event-first table n more h r = rw h r
 
 octets-first : (xs : List ℕ) (more : List Field) → allInRange more ≡ true → allInRange (octets xs ∷ more) ≡ true
 unfolding allInRange
@@ -63,27 +69,31 @@ data-first event value reference mode message more v m l r =
     Good : List Field → Type 0
     Good fs = allInRange (fs ++ more) ≡ true
 
-claim-ranged : (table : Table) (answer state parameters actions : ℕ) (reply : List ℕ) → answer ≤ 3 → state ≤ 7 → parameters ≤ 15 → actions ≤ 63 → length reply ≤ 255
+claim-ranged : (table : Table) (answer state parameters actions : ℕ) (reply : List ℕ) → answer ≤ 3 → state ≤ greatestState table → parameters ≤ 15 → actions ≤ greatestActions table → length reply ≤ 255
     → allInRange (claimFields table answer state parameters actions reply) ≡ true
 unfolding claimFields
 claim-ranged table answer state parameters actions reply a s p c l =
     number-first 0 3 answer _ (omega arith) a
-    (number-first 0 (greatestState table) state _ (omega arith) (subst (λ m. state ≤ m) (state-so table) s)
+    (number-first 0 (greatestState table) state _ (omega arith) s
     (number-first 0 15 parameters _ (omega arith) p
-    (number-first 0 (greatestActions table) actions _ (omega arith) (subst (λ m. actions ≤ m) (actions-so table) c)
+    (number-first 0 (greatestActions table) actions _ (omega arith) c
     (number-first 0 255 (length reply) _ (omega arith) l (octets-first reply [] none-left)))))
 
 -- ---- what a context comes to in numbers
 
-state-most : (s : State) → numberOf s ≤ 7
-state-most U0 = omega arith
-state-most U0p = omega arith
-state-most U1 = omega arith
-state-most U2 = omega arith
-state-most U3 = omega arith
-state-most U4 = omega arith
-state-most U5 = omega arith
-state-most U6 = omega arith
+-- The states of a table are those that its log has numbers for.
+abbrev numberedIn : Table → State → Bool
+numberedIn table s = not (among s (fitnessOf table .states)) || leb (numberOf s) (greatestState table)
+
+states-numbered : (table : Table) → inStates (numberedIn table) ≡ true
+unfolding fitnessOf protocolOf greatestState
+states-numbered First = refl
+states-numbered Second = refl
+states-numbered Third = refl
+states-numbered Group = refl
+
+state-most : (table : Table) (s : State) → among s (fitnessOf table .states) ≡ true → numberOf s ≤ greatestState table
+state-most table s known = leb-true _ _ (if-so (among s (fitnessOf table .states)) _ (at-state (numberedIn table) (states-numbered table) s) known)
 
 weighs-most : (set : Bool) (weight : ℕ) → weighs set weight ≤ weight
 unfolding weighs
@@ -135,21 +145,21 @@ module _ (table : Table) (own : Own) (identity : List ℕ) (x : Context) (e : Gi
 
   call-most : carriesCall (e .happened .number) ≡ true → e .happened .value ≤ 6
   unfolding carriesCall
-  call-most c = leb-true _ 6 (value-most (greatestEvent table) (own .key) (length identity) (e .happened) (passes .range) c)
+  call-most c = leb-true _ 6 (value-most (hasEvent table (e .happened .number)) (own .key) (length identity) (e .happened) (passes .range) c)
 
   module _ (delta : ℕ) (day : delta ≤ 86400000) where
     -- Each number of the entry is in range. The context may be any: one that is not fit is answered 7.
     pub true-step-ranged : ranged table (meantBy table own identity (entryAfter table own identity x e delta)) ≡ true
     unfolding ranged fields
     true-step-ranged =
-        let h : Honest x (stepped table own identity x e) = step-honest table own identity 255 x (e .happened) (e .octets) in
+        let h : Honest (greatestActions table) x (stepped table own identity x e) = step-honest table own identity 255 x (e .happened) (e .octets) in
         let l : length (stepped table own identity x e .reply) ≤ 251 = step-short table own identity 255 x (e .happened) (e .octets) in
         number-first 0 86400000 delta _ (omega arith) day
-        (number-first 1 (greatestEvent table) (e .happened .number) _ (number-least (greatestEvent table) (own .key) (length identity) (e .happened) (passes .range))
-        (number-most (greatestEvent table) (own .key) (length identity) (e .happened) (passes .range))
+        (event-first table (e .happened .number) _ (number-known (hasEvent table (e .happened .number)) (own .key) (length identity) (e .happened) (passes .range))
         (data-first (e .happened .number) (e .happened .value) _ (e .happened .mode) (e .octets) _ call-most
-        (mode-most (greatestEvent table) (own .key) (length identity) (e .happened) (passes .range)) message-most
-        (claim-ranged table _ _ _ _ _ answer-most (state-most (stepped table own identity x e .context .state)) (parameters-most (stepped table own identity x e .context .parameters))
+        (mode-most (hasEvent table (e .happened .number)) (own .key) (length identity) (e .happened) (passes .range)) message-most
+        (claim-ranged table _ _ _ _ _ answer-most (state-most table (stepped table own identity x e .context .state) (fit-known table (stepped table own identity x e .context)
+        (step-keeps-fit table own identity 255 x (e .happened) (e .octets) (passes .fit)))) (parameters-most (stepped table own identity x e .context .parameters))
         (h .few) (omega (arith, l)))))
 
     -- So with no more bytes used than there are, the recorder does not answer 4: it records the entry, or answers 10 or 11.

@@ -12,7 +12,7 @@ use Rattle.context.specs.declared.Context.{Context}
 use Rattle.reply.specs.declared.Own.{Own}
 use Rattle.step_arguments.specs.Arguments.{settingsOut}
 use Rattle.version.specs.declared.Table.{Table}
-use Rattle.version.specs.declared.Table.the-variants.{First, Second, Third}
+use Rattle.version.specs.declared.Table.the-variants.{First, Second, Third, Group}
 use Rattle.version.specs.Version.{versionOf, tableOf, longest}
 use Rattle.version.proofs.Back.{table-number}
 use Rattle.version.proofs.Tables.{number-small}
@@ -241,3 +241,4 @@ unfolding whole layout versionOf grouped groups judgeOf versionJudged tableOf nu
 begun-alone First own identity settings before after used begun = rw (begun-log First before after used begun .used, settings) refl
 begun-alone Second own identity settings before after used begun = rw (begun-log Second before after used begun .used, settings) refl
 begun-alone Third own identity settings before after used begun = rw (begun-log Third before after used begun .used, settings) refl
+begun-alone Group own identity settings before after used begun = rw (begun-log Group before after used begun .used, settings) refl

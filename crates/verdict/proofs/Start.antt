@@ -18,6 +18,7 @@ use Rattle.call.proofs.Timed.{stays, timed-by}
 use Rattle.reply.specs.declared.Own.{Own}
 use Rattle.radio.specs.Step.{dueTo, reactedTo, refusalOf, reacted, refused, stepOf}
 use Rattle.version.specs.declared.Table.{Table}
+use Rattle.version.specs.Version.{greatestActions, protocolOf}
 use Rattle.table.specs.Log.{Log, Entry, Moment, begin, timerAfter, timeOf, next}
 use Rattle.table.specs.Points.{momentAfter}
 use Rattle.table.specs.Start.{NoneAnew}
@@ -34,9 +35,9 @@ unfolding setsTimer stepOf reactedTo
 step-right table own identity x e fit = go (eqb (refusalOf table x (own .key) (length identity) (e .happened) (length (e .octets)) 255) 0)
   where
     go : (b : Bool) → rightly (cond b (setByDue table x (dueTo table identity x (e .happened) (e .octets))) 0) (runs x)
-        (runs (cond b (reacted own identity (e .octets) (reactedTo table identity x (e .happened) (e .octets)))
+        (runs (cond b (reacted (protocolOf table) own identity (e .octets) (reactedTo table identity x (e .happened) (e .octets)))
         (refused (refusalOf table x (own .key) (length identity) (e .happened) (length (e .octets)) 255) x) .context)) ≡ true
-    go true = timed-by (fitnessOf table) x 63 (stepTable table) (rows-sound table) fit (dueTo table identity x (e .happened) (e .octets))
+    go true = timed-by (fitnessOf table) (greatestActions table) (stepTable table) (rows-sound table) x fit (dueTo table identity x (e .happened) (e .octets))
     go false = stays (runs x)
 
 one-of : (a b : Bool) → (a || b) ≡ true → a ≡ false → b ≡ true

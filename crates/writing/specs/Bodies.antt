@@ -8,6 +8,8 @@ use mathlib.Core.Bool.{Bool, true, cond, _&&_}
 use lib.ListN.{length}
 use lib.Seq.{sets}
 use lib.Dec.{ltb}
+use Rattle.codes.specs.declared.protocol.Protocol.{Protocol}
+use Rattle.codes.specs.declared.protocol.Protocol.the-variants.{Broadcast}
 use Rattle.octets.specs.declared.Run.{Run}
 use Rattle.message.specs.declared.Identity.{Identity}
 use Rattle.message.specs.declared.Identity.the-variants.{Absent as Anonymous, Present as Named}
@@ -24,15 +26,15 @@ use Rattle.message.specs.declared.Message.the-variants.{
   TerminationReject,
   TerminationRequest,
 }
-use Rattle.limits.specs.Limits.{runFits, statusFits}
+use Rattle.limits.specs.Limits.{runFits, rejectFits, statusFits}
 use Rattle.message.specs.Content.{Content, runOctets}
 use Rattle.message.specs.Tables.{formatTV, typeOf, table, drawn, counted, octetsOf}
 use Rattle.writing.specs.declared.Wrote.{Wrote}
 use Rattle.writing.specs.declared.Wrote.the-variants.{Written, ShortBuffer, OutOfRange}
 
 -- The message's octets, behind a first octet.
-unfoldable pub bodyOctets : ℕ → Content → List ℕ
-bodyOctets head content = head ∷ typeOf content ∷ drawn (table content)
+unfoldable pub bodyOctets : Protocol → ℕ → Content → List ℕ
+bodyOctets protocol head content = head ∷ typeOf content ∷ drawn (table protocol content)
 
 -- A length octet and the octets of a run.
 abbrev pub causeOctets : List ℕ → Run → List ℕ
@@ -42,18 +44,29 @@ causeOctets s cause = counted (runOctets s cause)
 abbrev pub halfOctets : ℕ → Half → List ℕ
 halfOctets identifier half = octetsOf (formatTV identifier half)
 
+-- The test of an identity that may be absent.
+abbrev pub identityFits : List ℕ → Identity → Bool
+identityFits s Anonymous = true
+identityFits s (Named identity) = runFits s identity 1 8
+
 -- The tests of a message's fields.
-abbrev pub bodyFits : List ℕ → Message → Bool
-bodyFits s (Connect reference originator) = ltb originator 2
-bodyFits s (GetStatus Anonymous) = true
-bodyFits s (GetStatus (Named identity)) = runFits s identity 8
-bodyFits s (ImmediateSetup key classmark identity reference) = ltb key 8 && runFits s identity 8
-bodyFits s (SetParameter attributes) = ltb attributes 16
-bodyFits s (Setup reference) = true
-bodyFits s (Status cause state attributes) = statusFits s cause state attributes
-bodyFits s (Termination cause) = runFits s cause 247
-bodyFits s (TerminationReject cause) = runFits s cause 247
-bodyFits s (TerminationRequest reference) = true
+abbrev pub bodyFits : Protocol → List ℕ → Message → Bool
+bodyFits protocol s (Connect reference originator) = ltb originator 2
+bodyFits protocol s (GetStatus identity) = identityFits s identity
+bodyFits protocol s (ImmediateSetup key classmark identity reference) = ltb key 8 && runFits s identity 1 8
+bodyFits protocol s (SetParameter attributes) = ltb attributes 16
+bodyFits protocol s (Setup reference) = true
+bodyFits protocol s (Status cause state attributes) = statusFits s cause state attributes
+bodyFits protocol s (Termination cause) = runFits s cause 1 247
+bodyFits protocol s (TerminationReject cause) = rejectFits protocol s cause
+bodyFits protocol s (TerminationRequest reference) = true
+
+-- The same of the kinds that both protocols draw alike: those of either.
+abbrev pub commonOctets : ℕ → Content → List ℕ
+commonOctets head content = bodyOctets Broadcast head content
+
+abbrev pub commonFits : List ℕ → Message → Bool
+commonFits s message = bodyFits Broadcast s message
 
 -- Writing `octets` over the start of `d`, if they fit and there is room, answers `r` and leaves `e`.
 pub record Writes (d octets : List ℕ) (fits : Bool) (r : Wrote) (e : List ℕ) : Type 0 where

@@ -7,6 +7,7 @@ use mathlib.Core.Bool.{Bool, cond, _&&_}
 use lib.ListN.{length}
 use lib.Seq.{sets}
 use lib.Dec.{ltb}
+use Rattle.codes.specs.declared.protocol.Protocol.{Protocol}
 use Rattle.message.specs.declared.Message.{Message}
 use Rattle.message.specs.Content.{contentOf, runsLie}
 use Rattle.message.specs.Tables.{written, fits}
@@ -14,36 +15,36 @@ use Rattle.writing.specs.declared.Wrote.{Wrote}
 use Rattle.writing.specs.declared.Wrote.the-variants.{Written, ShortBuffer, OutOfRange}
 
 -- The message can be written.
-unfoldable pub writable : List ℕ → Bool → ℕ → Message → Bool
-writable s flag value message = runsLie s message && fits flag value (contentOf s message)
+unfoldable pub writable : Protocol → List ℕ → Bool → ℕ → Message → Bool
+writable protocol s flag value message = runsLie s message && fits protocol flag value (contentOf s message)
 
 -- Its octets, which are the table's.
-abbrev pub octetsWritten : List ℕ → Bool → ℕ → Message → List ℕ
-octetsWritten s flag value message = written flag value (contentOf s message)
+abbrev pub octetsWritten : Protocol → List ℕ → Bool → ℕ → Message → List ℕ
+octetsWritten protocol s flag value message = written protocol flag value (contentOf s message)
 
 -- Putting a message into a part of a buffer that holds `d`, where its runs lie in `s`: what can't be written is out of range, then the part is short of room,
 -- else the message's octets stand over the part's start, and each other octet is as it was.
-unfoldable pub putAnswer : List ℕ → List ℕ → Bool → ℕ → Message → Wrote
-putAnswer d s flag value message =
-    cond (writable s flag value message)
-    (cond (ltb (length d) (length (octetsWritten s flag value message))) ShortBuffer (Written (length (octetsWritten s flag value message)))) OutOfRange
+unfoldable pub putAnswer : Protocol → List ℕ → List ℕ → Bool → ℕ → Message → Wrote
+putAnswer protocol d s flag value message =
+    cond (writable protocol s flag value message)
+    (cond (ltb (length d) (length (octetsWritten protocol s flag value message))) ShortBuffer (Written (length (octetsWritten protocol s flag value message)))) OutOfRange
 
-unfoldable pub putLeaves : List ℕ → List ℕ → Bool → ℕ → Message → List ℕ
-putLeaves d s flag value message =
-    cond (writable s flag value message)
-    (cond (ltb (length d) (length (octetsWritten s flag value message))) d (sets d 0 (octetsWritten s flag value message))) d
+unfoldable pub putLeaves : Protocol → List ℕ → List ℕ → Bool → ℕ → Message → List ℕ
+putLeaves protocol d s flag value message =
+    cond (writable protocol s flag value message)
+    (cond (ltb (length d) (length (octetsWritten protocol s flag value message))) d (sets d 0 (octetsWritten protocol s flag value message))) d
 
 -- Writing one: the answer, where the buffer holds `d` and the runs lie in `s`.
-unfoldable pub writeAnswer : List ℕ → List ℕ → Bool → ℕ → Message → Wrote
-writeAnswer d s flag value message =
+unfoldable pub writeAnswer : Protocol → List ℕ → List ℕ → Bool → ℕ → Message → Wrote
+writeAnswer protocol d s flag value message =
     cond (ltb (length d) 255) ShortBuffer
-    (cond (writable s flag value message) (Written (length (octetsWritten s flag value message))) OutOfRange)
+    (cond (writable protocol s flag value message) (Written (length (octetsWritten protocol s flag value message))) OutOfRange)
 
 -- The buffer afterwards: the message's octets over its start, and each other octet as it was; on a refusal all as it was.
-unfoldable pub writeLeaves : List ℕ → List ℕ → Bool → ℕ → Message → List ℕ
-writeLeaves d s flag value message =
+unfoldable pub writeLeaves : Protocol → List ℕ → List ℕ → Bool → ℕ → Message → List ℕ
+writeLeaves protocol d s flag value message =
     cond (ltb (length d) 255) d
-    (cond (writable s flag value message) (sets d 0 (octetsWritten s flag value message)) d)
+    (cond (writable protocol s flag value message) (sets d 0 (octetsWritten protocol s flag value message)) d)
 
 -- Document 01, "Answer numbers".
 abbrev pub writtenNumber : Wrote → ℕ

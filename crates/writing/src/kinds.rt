@@ -8,14 +8,16 @@ ghost use lib.ListN.{length};
 ghost use lib.Seq.{sets};
 ghost use Rattle.octets.specs.declared.Run.{Run};
 ghost use Rattle.message.specs.declared.Message.{Message};
-ghost use Rattle.message.specs.Content.{contentOf, referenceOctets};
+ghost use Rattle.message.specs.Content.{contentOf, runOctets, referenceOctets};
 ghost use Rattle.limits.specs.Limits.{runFits, halfFits, halfCount};
-ghost use Rattle.writing.specs.Bodies.{Writes, causeOctets, bodyOctets, bodyFits, halfOctets};
+ghost use Rattle.writing.specs.Bodies.{Writes, causeOctets, bodyOctets, bodyFits, commonOctets, commonFits, halfOctets};
 use crate::Wrote;
 use codes::message_type;
+use codes::protocol::Protocol;
 use limits::cause_fits;
 use limits::half_count;
 use limits::identity_fits;
+use limits::reject_fits;
 use limits::status_fits;
 use message::Classmark;
 use message::Half;
@@ -52,7 +54,7 @@ fn put_half(buffer: &mut [u8], at: usize, identifier: u8, half: Half) -> usize
 
 // Table 8.1.
 fn write_connect(buffer: &mut [u8], head: u8, reference: Reference, originator: u8) -> Wrote
-    ensures { λ r. ⌜ Writes (now (buffer .entry)) (bodyOctets head (contentOf [] (Message.Connect reference originator))) (bodyFits [] (Message.Connect reference originator)) r (now (buffer .exit)) ⌝ }
+    ensures { λ r. ⌜ Writes (now (buffer .entry)) (commonOctets head (contentOf [] (Message.Connect reference originator))) (commonFits [] (Message.Connect reference originator)) r (now (buffer .exit)) ⌝ }
 {
     if 2 <= originator {
         return Wrote::OutOfRange;
@@ -72,7 +74,7 @@ fn write_connect(buffer: &mut [u8], head: u8, reference: Reference, originator: 
 
 // Table 8.2.
 fn write_get_status(buffer: &mut [u8], source: &[u8], head: u8, identity: Identity) -> Wrote
-    ensures { λ r. ⌜ Writes (now (buffer .entry)) (bodyOctets head (contentOf (now (source .entry)) (Message.GetStatus identity))) (bodyFits (now (source .entry)) (Message.GetStatus identity)) r (now (buffer .exit)) ⌝ }
+    ensures { λ r. ⌜ Writes (now (buffer .entry)) (commonOctets head (contentOf (now (source .entry)) (Message.GetStatus identity))) (commonFits (now (source .entry)) (Message.GetStatus identity)) r (now (buffer .exit)) ⌝ }
 {
     match identity {
         Identity::Absent => {
@@ -89,7 +91,7 @@ fn write_get_status(buffer: &mut [u8], source: &[u8], head: u8, identity: Identi
 
 // Table 8.2 with a mobile identity.
 fn write_identified(buffer: &mut [u8], source: &[u8], head: u8, identity: Run) -> Wrote
-    ensures { λ r. ⌜ Writes (now (buffer .entry)) (bodyOctets head (contentOf (now (source .entry)) (Message.GetStatus (Identity.Present identity)))) (bodyFits (now (source .entry)) (Message.GetStatus (Identity.Present identity))) r (now (buffer .exit)) ⌝ }
+    ensures { λ r. ⌜ Writes (now (buffer .entry)) (commonOctets head (contentOf (now (source .entry)) (Message.GetStatus (Identity.Present identity)))) (commonFits (now (source .entry)) (Message.GetStatus (Identity.Present identity))) r (now (buffer .exit)) ⌝ }
 {
     if !identity_fits(source, identity) {
         return Wrote::OutOfRange;
@@ -117,7 +119,7 @@ fn write_immediate_setup(
     identity: Run,
     reference: Reference,
 ) -> Wrote
-    ensures { λ r. ⌜ Writes (now (buffer .entry)) (bodyOctets head (contentOf (now (source .entry)) (Message.ImmediateSetup key classmark identity reference))) (bodyFits (now (source .entry)) (Message.ImmediateSetup key classmark identity reference)) r (now (buffer .exit)) ⌝ }
+    ensures { λ r. ⌜ Writes (now (buffer .entry)) (commonOctets head (contentOf (now (source .entry)) (Message.ImmediateSetup key classmark identity reference))) (commonFits (now (source .entry)) (Message.ImmediateSetup key classmark identity reference)) r (now (buffer .exit)) ⌝ }
 {
     if 8 <= key {
         return Wrote::OutOfRange;
@@ -145,7 +147,7 @@ fn write_immediate_setup(
 
 // Table 8.4.
 fn write_set_parameter(buffer: &mut [u8], head: u8, attributes: u8) -> Wrote
-    ensures { λ r. ⌜ Writes (now (buffer .entry)) (bodyOctets head (contentOf [] (Message.SetParameter attributes))) (bodyFits [] (Message.SetParameter attributes)) r (now (buffer .exit)) ⌝ }
+    ensures { λ r. ⌜ Writes (now (buffer .entry)) (commonOctets head (contentOf [] (Message.SetParameter attributes))) (commonFits [] (Message.SetParameter attributes)) r (now (buffer .exit)) ⌝ }
 {
     if 16 <= attributes {
         return Wrote::OutOfRange;
@@ -175,13 +177,11 @@ fn write_reference(buffer: &mut [u8], head: u8, kind: u8, reference: Reference) 
     Wrote::Written(6)
 }
 
-// Tables 8.7 and 8.8: a type and a cause.
-fn write_cause(buffer: &mut [u8], source: &[u8], head: u8, kind: u8, cause: Run) -> Wrote
-    ensures { λ r. ⌜ Writes (now (buffer .entry)) (head ∷ kind ∷ causeOctets (now (source .entry)) cause) (runFits (now (source .entry)) cause 247) r (now (buffer .exit)) ⌝ }
+// A type and a cause behind its length octet.
+fn put_counted(buffer: &mut [u8], source: &[u8], head: u8, kind: u8, cause: Run) -> Wrote
+    requires { ⌜ runFits (now source) cause 1 247 ≡ true ⌝ }
+    ensures { λ r. ⌜ Writes (now (buffer .entry)) (head ∷ kind ∷ causeOctets (now (source .entry)) cause) true r (now (buffer .exit)) ⌝ }
 {
-    if !cause_fits(source, cause) {
-        return Wrote::OutOfRange;
-    }
     let start = cause.start;
     let count = cause.count;
     if buffer.len() < 3 + count {
@@ -192,6 +192,46 @@ fn write_cause(buffer: &mut [u8], source: &[u8], head: u8, kind: u8, cause: Run)
     buffer[2] = count as u8;
     copy_to(buffer, 3, source, start, count);
     Wrote::Written(3 + count)
+}
+
+// A type and the four octets of a cause.
+fn put_four(buffer: &mut [u8], source: &[u8], head: u8, kind: u8, cause: Run) -> Wrote
+    requires { ⌜ runFits (now source) cause 4 4 ≡ true ⌝ }
+    ensures { λ r. ⌜ Writes (now (buffer .entry)) (head ∷ kind ∷ runOctets (now (source .entry)) cause) true r (now (buffer .exit)) ⌝ }
+{
+    let start = cause.start;
+    let count = cause.count;
+    if buffer.len() < 2 + count {
+        return Wrote::ShortBuffer;
+    }
+    buffer[0] = head;
+    buffer[1] = kind;
+    copy_to(buffer, 2, source, start, count);
+    Wrote::Written(2 + count)
+}
+
+// Table 8.7.
+fn write_termination(buffer: &mut [u8], source: &[u8], head: u8, cause: Run) -> Wrote
+    ensures { λ r. ⌜ Writes (now (buffer .entry)) (commonOctets head (contentOf (now (source .entry)) (Message.Termination cause))) (commonFits (now (source .entry)) (Message.Termination cause)) r (now (buffer .exit)) ⌝ }
+{
+    if !cause_fits(source, cause) {
+        return Wrote::OutOfRange;
+    }
+    put_counted(buffer, source, head, message_type::TERMINATION, cause)
+}
+
+// Table 8.8.
+fn write_reject(protocol: Protocol, buffer: &mut [u8], source: &[u8], head: u8, cause: Run) -> Wrote
+    ensures { λ r. ⌜ Writes (now (buffer .entry)) (bodyOctets protocol head (contentOf (now (source .entry)) (Message.TerminationReject cause))) (bodyFits protocol (now (source .entry)) (Message.TerminationReject cause)) r (now (buffer .exit)) ⌝ }
+{
+    if !reject_fits(protocol, source, cause) {
+        return Wrote::OutOfRange;
+    }
+    let kind = message_type::TERMINATION_REJECT;
+    match protocol {
+        Protocol::Broadcast => put_counted(buffer, source, head, kind, cause),
+        Protocol::Group => put_four(buffer, source, head, kind, cause),
+    }
 }
 
 // How many octets a STATUS takes, with a cause of `count`.
@@ -211,7 +251,7 @@ fn write_status(
     state: Half,
     attributes: Half,
 ) -> Wrote
-    ensures { λ r. ⌜ Writes (now (buffer .entry)) (bodyOctets head (contentOf (now (source .entry)) (Message.Status cause state attributes))) (bodyFits (now (source .entry)) (Message.Status cause state attributes)) r (now (buffer .exit)) ⌝ }
+    ensures { λ r. ⌜ Writes (now (buffer .entry)) (commonOctets head (contentOf (now (source .entry)) (Message.Status cause state attributes))) (commonFits (now (source .entry)) (Message.Status cause state attributes)) r (now (buffer .exit)) ⌝ }
 {
     if !status_fits(source, cause, state, attributes) {
         return Wrote::OutOfRange;
@@ -231,8 +271,14 @@ fn write_status(
 }
 
 // The message behind its first octet, which is `head`.
-pub(crate) fn write_body(buffer: &mut [u8], source: &[u8], head: u8, message: Message) -> Wrote
-    ensures { λ r. ⌜ Writes (now (buffer .entry)) (bodyOctets head (contentOf (now (source .entry)) message)) (bodyFits (now (source .entry)) message) r (now (buffer .exit)) ⌝ }
+pub(crate) fn write_body(
+    protocol: Protocol,
+    buffer: &mut [u8],
+    source: &[u8],
+    head: u8,
+    message: Message,
+) -> Wrote
+    ensures { λ r. ⌜ Writes (now (buffer .entry)) (bodyOctets protocol head (contentOf (now (source .entry)) message)) (bodyFits protocol (now (source .entry)) message) r (now (buffer .exit)) ⌝ }
 {
     match message {
         Message::Connect {
@@ -258,20 +304,8 @@ pub(crate) fn write_body(buffer: &mut [u8], source: &[u8], head: u8, message: Me
             state,
             attributes,
         } => write_status(buffer, source, head, cause, state, attributes),
-        Message::Termination { cause } => write_cause(
-            buffer,
-            source,
-            head,
-            message_type::TERMINATION,
-            cause,
-        ),
-        Message::TerminationReject { cause } => write_cause(
-            buffer,
-            source,
-            head,
-            message_type::TERMINATION_REJECT,
-            cause,
-        ),
+        Message::Termination { cause } => write_termination(buffer, source, head, cause),
+        Message::TerminationReject { cause } => write_reject(protocol, buffer, source, head, cause),
         Message::TerminationRequest { reference } => write_reference(
             buffer,
             head,

@@ -1,10 +1,12 @@
-// Writing the nine messages of broadcast call control, GSM 04.69 clauses 8 and 9, into a lent buffer.
+// Writing the nine messages of broadcast and group call control, clauses 8 and 9 of GSM 04.69 and 24.068, into a lent buffer.
 mod kinds;
 
 ghost use mathlib.Core.Path.{_≡_};
 ghost use Prim.Native.Nat.{_≤_};
 ghost use Rattle.message.specs.Tables.{headOf};
 ghost use Rattle.writing.specs.Writing.{putAnswer, putLeaves, writeAnswer, writeLeaves};
+use codes::protocol::Protocol;
+use codes::protocol::discriminator;
 use message::Message;
 
 // What writing comes to; the number that document 01 gives each is `writtenNumber`.
@@ -18,35 +20,50 @@ pub enum Wrote {
 }
 
 // The first octet of a message. The transaction value has three bits.
-fn head_of(flag: bool, value: u8) -> u8
+fn head_of(protocol: Protocol, flag: bool, value: u8) -> u8
     requires { ⌜ value ≤ 7 ⌝ }
-    ensures { λ r. ⌜ r ≡ headOf flag value ⌝ }
+    ensures { λ r. ⌜ r ≡ headOf protocol flag value ⌝ }
 {
+    let low = discriminator(protocol);
     if flag {
-        return 129 + 16 * value;
+        return low + 16 * (8 + value);
     }
-    1 + 16 * value
+    low + 16 * value
 }
 
 // Puts the message over the start of `part`, which needs room for the message and no more: so a second message is put behind a first. Its runs lie in `source`.
-pub fn put(part: &mut [u8], source: &[u8], flag: bool, value: u8, message: Message) -> Wrote
-    ensures { λ r. ⌜ r ≡ putAnswer (now (part .entry)) (now (source .entry)) flag value message ⌝ }
-    ensures { λ _. ⌜ now (part .exit) ≡ putLeaves (now (part .entry)) (now (source .entry)) flag value message ⌝ }
+pub fn put(
+    protocol: Protocol,
+    part: &mut [u8],
+    source: &[u8],
+    flag: bool,
+    value: u8,
+    message: Message,
+) -> Wrote
+    ensures { λ r. ⌜ r ≡ putAnswer protocol (now (part .entry)) (now (source .entry)) flag value message ⌝ }
+    ensures { λ _. ⌜ now (part .exit) ≡ putLeaves protocol (now (part .entry)) (now (source .entry)) flag value message ⌝ }
 {
     if 6 < value {
         return Wrote::OutOfRange;
     }
-    let head = head_of(flag, value);
-    kinds::write_body(part, source, head, message)
+    let head = head_of(protocol, flag, value);
+    kinds::write_body(protocol, part, source, head, message)
 }
 
 // Writes the message over the start of `buffer`, which has 255 octets at least. Its runs lie in `source`.
-pub fn write(buffer: &mut [u8], source: &[u8], flag: bool, value: u8, message: Message) -> Wrote
-    ensures { λ r. ⌜ r ≡ writeAnswer (now (buffer .entry)) (now (source .entry)) flag value message ⌝ }
-    ensures { λ _. ⌜ now (buffer .exit) ≡ writeLeaves (now (buffer .entry)) (now (source .entry)) flag value message ⌝ }
+pub fn write(
+    protocol: Protocol,
+    buffer: &mut [u8],
+    source: &[u8],
+    flag: bool,
+    value: u8,
+    message: Message,
+) -> Wrote
+    ensures { λ r. ⌜ r ≡ writeAnswer protocol (now (buffer .entry)) (now (source .entry)) flag value message ⌝ }
+    ensures { λ _. ⌜ now (buffer .exit) ≡ writeLeaves protocol (now (buffer .entry)) (now (source .entry)) flag value message ⌝ }
 {
     if buffer.len() < 255 {
         return Wrote::ShortBuffer;
     }
-    put(buffer, source, flag, value, message)
+    put(protocol, buffer, source, flag, value, message)
 }

@@ -19,10 +19,15 @@ pub fn bytes(table: Table, entries: &[Entry]) -> Vec<u8> {
     log
 }
 
-/// A true run by one of the tables under one timer of each setting, sometimes of
-/// several calls.
+/// A true run by one of the tables.
 pub fn true_run(random: &mut Random) -> Walk {
     let table = random.pick(&TABLES);
+    true_run_by(random, table)
+}
+
+/// A true run by this table under one timer of each setting, sometimes of several
+/// calls.
+pub fn true_run_by(random: &mut Random, table: Table) -> Walk {
     let identity = own(random, u64::MAX);
     let chosen = chosen(random);
     let mut walk = Walk::begin(table, identity, chosen);
@@ -93,15 +98,20 @@ pub fn claim(random: &mut Random, entries: &mut [Entry]) {
     let entry = &mut entries[random.place(entries.len())];
     match random.below(8) {
         0 => entry.answer = random.between(0, 4) as u32,
-        1 => entry.state = random.between(0, 8) as u32,
+        1 => entry.state = random.between(0, 14) as u32,
         2 => entry.parameters = random.between(0, 16) as u32,
-        3 => entry.actions = random.pick(&[0, 1, 2, 4, 8, 9, 16, 17, 32, 63, 64]),
+        3 => entry.actions = random.pick(&[0, 1, 2, 4, 8, 9, 16, 17, 32, 63, 64, 127, 128]),
         4 => entry.reply.push(0),
         5 => entry.reply = vec![0x51; random.pick(&[1, 255, 256])],
         6 => {
             entry.reply.pop();
         }
-        _ => entry.event.number = random.between(0, 20) as u32,
+        _ => {
+            entry.event.number = match random.one_in(3) {
+                true => random.between(30, 37),
+                false => random.between(0, 20),
+            } as u32
+        }
     }
 }
 

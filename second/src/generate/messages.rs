@@ -6,20 +6,32 @@ use super::random::Random;
 use crate::message::kind::TYPE_CODES;
 use crate::message::write::compose;
 use crate::message::{Fields, Kind, Message};
+use crate::protocol::Protocol;
 use crate::state::State;
 
+/// What the first octet of a message says.
+#[derive(Clone, Copy, PartialEq, Eq, Debug)]
+pub struct Transaction {
+    pub protocol: Protocol,
+    pub flag: u8,
+    pub value: u8,
+}
+
 /// A good message of this kind for this transaction.
-pub fn good(random: &mut Random, kind: Kind, flag: u8, value: u8, own: &[u8]) -> Vec<u8> {
-    let fields = fields(random, own);
+pub fn good(random: &mut Random, kind: Kind, transaction: Transaction, own: &[u8]) -> Vec<u8> {
+    let mut fields = fields(random, own);
+    if (transaction.protocol, kind) == (Protocol::Group, Kind::TerminationReject) {
+        fields.cause = random.octets(4);
+    }
     let message = Message {
-        flag,
+        flag: transaction.flag,
         transaction_value: 0,
         kind,
         fields,
     };
-    let mut octets = compose(&message).expect("its fields are in range");
+    let mut octets = compose(transaction.protocol, &message).expect("its fields are in range");
     // Value 7 can be received, though never written.
-    octets[0] |= (value & 7) << 4;
+    octets[0] |= (transaction.value & 7) << 4;
     octets
 }
 
@@ -68,8 +80,8 @@ pub fn likely_kind(random: &mut Random, state: State) -> Kind {
 }
 
 /// A message of this kind, good or spoilt, for this transaction.
-pub fn any(random: &mut Random, kind: Kind, flag: u8, value: u8, own: &[u8]) -> Vec<u8> {
-    let mut octets = good(random, kind, flag, value, own);
+pub fn any(random: &mut Random, kind: Kind, transaction: Transaction, own: &[u8]) -> Vec<u8> {
+    let mut octets = good(random, kind, transaction, own);
     if kind == Kind::GetStatus && random.one_in(2) {
         octets.truncate(2);
     }
@@ -138,8 +150,12 @@ pub fn fill(random: &mut Random, octets: &mut Vec<u8>, length: usize) {
 }
 
 /// A message to be read without a context.
-pub fn to_read(random: &mut Random) -> Vec<u8> {
-    let (flag, value) = (random.octet() & 1, random.octet() & 7);
+pub fn to_read(random: &mut Random, protocol: Protocol) -> Vec<u8> {
+    let transaction = Transaction {
+        protocol,
+        flag: random.octet() & 1,
+        value: random.octet() & 7,
+    };
     let kind = any_kind(random);
     let own = [0x29, 0xF1];
     match random.below(40) {
@@ -148,22 +164,31 @@ pub fn to_read(random: &mut Random) -> Vec<u8> {
             random.octets(length)
         }
         1 => {
-            let mut octets = any(random, kind, flag, value, &own);
+            let mut octets = any(random, kind, transaction, &own);
             if let Some(first) = octets.first_mut() {
                 *first = random.octet();
             }
             octets
         }
-        2 => long_cause(random, flag, value),
-        _ => any(random, kind, flag, value, &own),
+        2 => long_cause(random, transaction),
+        _ => any(random, kind, transaction, &own),
     }
 }
 
 /// Causes about as long as their table and the message allow.
-fn long_cause(random: &mut Random, flag: u8, value: u8) -> Vec<u8> {
+fn long_cause(random: &mut Random, transaction: Transaction) -> Vec<u8> {
+    let Transaction {
+        protocol,
+        flag,
+        value,
+    } = transaction;
     let code = random.pick(&[0x34, 0x36, 0x38]);
     let length = random.pick(&[243, 244, 245, 246, 247, 248, 249]);
-    let mut octets = vec![flag << 7 | value << 4 | 1, code, length];
+    let mut octets = vec![
+        flag << 7 | value << 4 | protocol.discriminator(),
+        code,
+        length,
+    ];
     octets.extend(random.octets(usize::from(length)));
     if random.one_in(3) {
         octets.push(0xA0 | random.octet() & 0x1F);

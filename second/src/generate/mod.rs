@@ -2,6 +2,7 @@
 //! They lean towards the places where document 01 draws a line.
 
 pub mod elements;
+pub mod group_walks;
 pub mod judge;
 pub mod log;
 pub mod malformed;
@@ -16,6 +17,8 @@ pub mod write;
 
 use crate::commands;
 use crate::probe::WORDS;
+use crate::protocol::Protocol;
+use crate::tables::Table;
 use random::Random;
 use std::io::{self, Write};
 
@@ -24,7 +27,7 @@ const MALFORMED_SHARE: u64 = 200;
 /// One log or buffer in so many is about 65,536 bytes long.
 const LONG_SHARE: u64 = 2_200;
 
-/// Prints so many commands of these words, of all six if there are none.
+/// Prints so many commands of these words, of all if there are none.
 pub fn run(seed: u64, count: u64, words: &[&str], output: &mut dyn Write) -> io::Result<()> {
     let words = if words.is_empty() { &WORDS } else { words };
     let mut random = Random::from_seed(seed);
@@ -39,16 +42,26 @@ pub fn run(seed: u64, count: u64, words: &[&str], output: &mut dyn Write) -> io:
 fn command(random: &mut Random, words: &[&str]) -> Vec<u8> {
     let word = random.pick(words);
     let long = random.one_in(LONG_SHARE);
+    let protocol = protocol_of(word);
+    let table = Table::newest_of(protocol);
     let line = match word {
-        "read" => commands::read(&messages::to_read(random)),
-        "write" => write::command(random),
-        "step" => step::command(random),
+        "read" | "gread" => commands::read(protocol, &messages::to_read(random, protocol)),
+        "write" | "gwrite" => write::command(random, protocol),
+        "step" | "gstep" => step::command(random, table),
         "settings" => commands::settings(&settings::file(random)),
         "judge" => judge::command(random, long),
-        _ => record::command(random, long),
+        _ => record::command(random, table, long),
     };
     if random.one_in(MALFORMED_SHARE) {
         return malformed::spoil(random, line);
     }
     line.into_bytes()
+}
+
+/// The protocol that a word is about; `settings` and `judge` are about both.
+fn protocol_of(word: &str) -> Protocol {
+    match word.starts_with(Protocol::Group.prefix()) {
+        true => Protocol::Group,
+        false => Protocol::Broadcast,
+    }
 }

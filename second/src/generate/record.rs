@@ -1,23 +1,23 @@
 //! `record` by chance: room exact or short by one, fields at and over their
 //! limits, and now and then a log as long as one may be.
 
-use super::log::true_run;
+use super::log::true_run_by;
 use super::random::Random;
 use crate::commands;
-use crate::event::Event;
+use crate::event::{all_but_messages, Event, MESSAGE_RECEIVED};
 use crate::log::entry::Entry;
 use crate::tables::Table;
 
-pub fn command(random: &mut Random, long: bool) -> String {
+pub fn command(random: &mut Random, table: Table, long: bool) -> String {
     let mut entry = match random.one_in(2) {
-        true => from_a_run(random),
-        false => by_chance(random),
+        true => from_a_run(random, table),
+        false => by_chance(random, table),
     };
     if random.one_in(3) {
-        at_a_limit(random, &mut entry);
+        at_a_limit(random, table, &mut entry);
     }
     let mut added = Vec::new();
-    entry.push(Table::NEWEST, &mut added);
+    entry.push(table, &mut added);
     let used = match long {
         true => 65_536 - added.len().min(65_000) + random.length(0, 1),
         false => random.pick(&[0, 0, 1, 2, 9, 30]),
@@ -40,47 +40,53 @@ pub fn command(random: &mut Random, long: bool) -> String {
         2 => random.pick(&[65_536, 65_537, 4_294_967_295]),
         _ => used as u32,
     };
-    commands::record(&buffer, used, &entry)
+    commands::record(table.protocol(), &buffer, used, &entry)
 }
 
-fn from_a_run(random: &mut Random) -> Entry {
-    let run = true_run(random);
+fn from_a_run(random: &mut Random, table: Table) -> Entry {
+    let run = true_run_by(random, table);
     run.entries
         .last()
         .cloned()
-        .unwrap_or_else(|| by_chance(random))
+        .unwrap_or_else(|| by_chance(random, table))
 }
 
-fn by_chance(random: &mut Random) -> Entry {
+fn by_chance(random: &mut Random, table: Table) -> Entry {
     let octets = random.length(0, 6);
     let reply = random.pick(&[0, 0, 1, 5]);
     Entry {
         delta: random.pick(&[0, 1, 127, 128, 300, 16_383, 16_384, 2_097_152, 86_400_000]),
         event: Event {
-            number: random.between(1, 19) as u32,
+            number: match random.one_in(4) {
+                true => MESSAGE_RECEIVED,
+                false => random.pick(&all_but_messages(table)),
+            },
             transaction_value: random.pick(&[0, 3, 6, 6, 7]),
             reference: random.reference(),
             mode: random.pick(&[0, 1, 1, 2]),
             octets: random.octets(octets),
         },
         answer: random.between(0, 3) as u32,
-        state: random.between(0, 7) as u32,
+        state: random.below(u64::from(table.greatest_state()) + 1) as u32,
         parameters: random.between(0, 15) as u32,
-        actions: random.between(0, 63) as u32,
+        actions: random.below(u64::from(table.greatest_actions()) + 1) as u32,
         reply: random.octets(reply),
     }
 }
 
-fn at_a_limit(random: &mut Random, entry: &mut Entry) {
+fn at_a_limit(random: &mut Random, table: Table, entry: &mut Entry) {
+    let beyond = 4_294_967_295;
     match random.below(10) {
-        0 => entry.delta = random.pick(&[86_399_999, 86_400_000, 86_400_001, 4_294_967_295]),
-        1 => entry.event.number = random.pick(&[0, 1, 2, 10, 18, 19, 20, 4_294_967_295]),
-        2 => entry.event.transaction_value = random.pick(&[6, 7, 4_294_967_295]),
-        3 => entry.event.mode = random.pick(&[1, 2, 4_294_967_295]),
-        4 => entry.answer = random.pick(&[3, 4, 4_294_967_295]),
-        5 => entry.state = random.pick(&[7, 8, 4_294_967_295]),
-        6 => entry.parameters = random.pick(&[15, 16, 4_294_967_295]),
-        7 => entry.actions = random.pick(&[63, 64, 4_294_967_295]),
+        0 => entry.delta = random.pick(&[86_399_999, 86_400_000, 86_400_001, beyond]),
+        1 => {
+            entry.event.number = random.pick(&[0, 1, 2, 10, 18, 19, 20, 31, 32, 36, 37, beyond]);
+        }
+        2 => entry.event.transaction_value = random.pick(&[6, 7, beyond]),
+        3 => entry.event.mode = random.pick(&[1, 2, beyond]),
+        4 => entry.answer = at_or_over(random, 3),
+        5 => entry.state = at_or_over(random, table.greatest_state()),
+        6 => entry.parameters = at_or_over(random, 15),
+        7 => entry.actions = at_or_over(random, table.greatest_actions()),
         8 => {
             let length = random.pick(&[127, 128, 254, 255, 256]);
             entry.reply = random.octets(length);
@@ -91,4 +97,8 @@ fn at_a_limit(random: &mut Random, entry: &mut Entry) {
             entry.event.octets = random.octets(length);
         }
     }
+}
+
+fn at_or_over(random: &mut Random, limit: u32) -> u32 {
+    random.pick(&[limit, limit + 1, 4_294_967_295])
 }

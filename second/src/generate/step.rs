@@ -3,23 +3,28 @@
 
 use super::messages;
 use super::random::Random;
-use super::walk::likely_event;
+use super::walk::{likely_event, likely_transaction};
 use super::write::buffer_length;
+use crate::call::{Pending, CHOOSERS};
 use crate::commands::{Identity, Step};
 use crate::context::Context;
 use crate::event::{all_but_messages, Event};
-use crate::state::{Parameters, State, STATES};
+use crate::protocol::Protocol;
+use crate::state::{Parameters, State};
 use crate::tables::Table;
 use crate::timer::RunningTimers;
 
-pub fn command(random: &mut Random) -> String {
+pub fn command(random: &mut Random, table: Table) -> String {
     let own = own(random, 12);
-    let context = fit_context(random);
-    let event = event(random, &context, &own);
-    let mut step = Step::from(&context, &own, &event);
+    let context = fit_context(random, table);
+    let event = event(random, table, &context, &own);
+    let mut step = Step::from(table.protocol(), &context, &own, &event);
     step.buffer_length = buffer_length(random);
     if random.one_in(10) {
-        unfit(random, &mut step);
+        match table.protocol() {
+            Protocol::Broadcast => unfit(random, &mut step),
+            Protocol::Group => unfit_group(random, &mut step),
+        }
     }
     step.to_string()
 }
@@ -47,10 +52,10 @@ pub fn own(random: &mut Random, share: u64) -> Identity {
     }
 }
 
-/// A context of any state that is fit by the newest table; start rows stand out
-/// among the parameters.
-pub fn fit_context(random: &mut Random) -> Context {
-    let state = random.pick(&STATES);
+/// A context of any state that is fit by this table; start rows stand out among
+/// the parameters, and so does what is pending where it may be.
+pub fn fit_context(random: &mut Random, table: Table) -> Context {
+    let state = random.pick(table.protocol().states());
     loop {
         let mut parameters = state.start_row();
         if random.one_in(3) {
@@ -59,7 +64,7 @@ pub fn fit_context(random: &mut Random) -> Context {
         // Every state has a fit set among no timer and each single one.
         let timers = RunningTimers::from_number(random.pick(&[0, 1, 2, 4, 8, 16]));
         let remembered = match state {
-            State::U5 => Some(random.pick(Table::NEWEST.asked_from())),
+            State::U5 => Some(random.pick(table.asked_from())),
             _ => None,
         };
         let mut context = Context {
@@ -69,31 +74,50 @@ pub fn fit_context(random: &mut Random) -> Context {
             transaction_value: random.below(7) as u8,
             reference: random.reference(),
             remembered,
+            chooser: random.pick(&CHOOSERS),
+            pending: Pending::from_number(random.octet() & 7),
         };
+        if table.protocol() == Protocol::Broadcast {
+            context.chooser = Context::cleared().chooser;
+            context.pending = Pending::default();
+        }
         if state.number() == 0 {
             context = Context::cleared();
         }
-        if context.is_fit(Table::NEWEST) {
+        if context.is_fit(table) {
             return context;
         }
     }
 }
 
-fn event(random: &mut Random, context: &Context, own: &Identity) -> Event {
+fn event(random: &mut Random, table: Table, context: &Context, own: &Identity) -> Event {
     match random.below(12) {
-        0..=3 => likely_event(random, Table::NEWEST, context, &own.identity),
+        0..=3 => likely_event(random, table, context, &own.identity),
         4 => Event {
-            number: random.pick(&[0, 18, 19, 20, 255, 256, 65_536, 4_294_967_295]),
+            number: random.pick(&[
+                0,
+                18,
+                19,
+                20,
+                31,
+                32,
+                36,
+                37,
+                255,
+                256,
+                65_536,
+                4_294_967_295,
+            ]),
             ..filled(random)
         },
         5..=6 => Event {
-            number: random.pick(&all_but_messages(Table::NEWEST)),
+            number: random.pick(&all_but_messages(table)),
             ..filled(random)
         },
         _ => Event {
             number: 18,
             mode: mode(random),
-            octets: message(random, context, &own.identity),
+            octets: message(random, table, context, &own.identity),
             ..filled(random)
         },
     }
@@ -124,16 +148,15 @@ fn mode(random: &mut Random) -> u32 {
 }
 
 /// Mostly for this call; the flag or the value of another one now and then.
-fn message(random: &mut Random, context: &Context, own: &[u8]) -> Vec<u8> {
-    let mut flag = context.state.received_flag().unwrap_or(random.octet() & 1);
-    let mut value = context.transaction_value;
+fn message(random: &mut Random, table: Table, context: &Context, own: &[u8]) -> Vec<u8> {
+    let mut transaction = likely_transaction(random, table, context);
     match random.below(12) {
-        0 => flag = 1 - flag,
-        1 => value = random.octet() & 7,
+        0 => transaction.flag = 1 - transaction.flag,
+        1 => transaction.value = random.octet() & 7,
         _ => (),
     }
     let kind = messages::likely_kind(random, context.state);
-    let mut octets = messages::any(random, kind, flag, value, own);
+    let mut octets = messages::any(random, kind, transaction, own);
     if random.one_in(12) {
         let length = random.pick(&[244, 245, 246, 247, 250, 251, 252, 252, 253]);
         messages::fill(random, &mut octets, length);
@@ -160,6 +183,21 @@ fn unfit(random: &mut Random, step: &mut Step) {
             step.timers = random.octet() & 31;
             step.state = random.octet() & 15;
         }
+    }
+}
+
+/// A context of a group call with something that does not go with the rest.
+fn unfit_group(random: &mut Random, step: &mut Step) {
+    match random.below(9) {
+        0 => step.parameters = random.octet() & 15,
+        1 => step.timers = random.octet() & 15,
+        2 => step.transaction_value = random.pick(&[6, 7, 8, 255]),
+        3 => step.state = random.pick(&[3, 7, 14, 15, 255]),
+        4 => step.state = random.octet() & 15,
+        5 => step.reference = random.reference(),
+        6 => step.remembered = random.pick(&[0, 1, 2, 3, 6, 8, 9, 10, 11, 12, 13, 14, 255]),
+        7 => step.chooser = random.pick(&[0, 1, 2, 3, 255]),
+        _ => step.pending = random.octet() & 7,
     }
 }
 

@@ -1,9 +1,9 @@
-//! Runs by each table, judged under the number of every version: true, and with
-//! one entry changed. Most of them ask for a termination or are invited to a
+//! Runs by each broadcast table, judged under the number of every version of
+//! broadcast logs: true, and with one entry changed. Most of them ask for a termination or are invited to a
 //! call, in whose rows the tables part.
 
 use super::log::{bytes, chosen, claim, time};
-use super::messages;
+use super::messages::{self, Transaction};
 use super::random::Random;
 use super::step::own;
 use super::walk::Walk;
@@ -11,8 +11,9 @@ use crate::commands;
 use crate::event::{carries, Event};
 use crate::log::entry::Entry;
 use crate::message::Kind;
+use crate::protocol::Protocol;
 use crate::state::State;
-use crate::tables::{Table, TABLES};
+use crate::tables::{Table, BROADCAST_TABLES};
 use std::io::{self, Write};
 
 /// Prints so many rounds: for each table a run, its entries as they are under
@@ -20,7 +21,7 @@ use std::io::{self, Write};
 pub fn run(seed: u64, count: u64, output: &mut dyn Write) -> io::Result<()> {
     let mut random = Random::from_seed(seed);
     for _ in 0..count {
-        for table in TABLES {
+        for table in BROADCAST_TABLES {
             for line in round(&mut random, table) {
                 output.write_all(line.as_bytes())?;
                 output.write_all(b"\n")?;
@@ -35,7 +36,7 @@ pub fn round(random: &mut Random, table: Table) -> Vec<String> {
     let changed = changed(random, &walk);
     let mut lines = Vec::new();
     for entries in [&walk.entries, &changed] {
-        for version in TABLES {
+        for version in BROADCAST_TABLES {
             lines.push(commands::judge(&walk.own, &bytes(version, entries)));
         }
     }
@@ -76,7 +77,12 @@ fn ask_for_termination(random: &mut Random, walk: &mut Walk) {
     }
     while walk.context.state == State::U1 && random.one_in(2) {
         // One in four does not name us, and leaves U1 as it is.
-        let octets = messages::good(random, Kind::Connect, 1, value as u8, &[]);
+        let transaction = Transaction {
+            protocol: Protocol::Broadcast,
+            flag: 1,
+            value: value as u8,
+        };
+        let octets = messages::good(random, Kind::Connect, transaction, &[]);
         walk.enter(Event::received(0, octets), 5);
     }
     walk.enter(Event::plain(4), 100);
@@ -92,7 +98,7 @@ fn be_invited(random: &mut Random, walk: &mut Walk) {
         walk.enter(Event::plain(12), delta);
     }
     let ends: &[u32] = match walk.table {
-        Table::First | Table::Second => &[3, 3, 5],
+        Table::First | Table::Second | Table::Group => &[3, 3, 5],
         Table::Third => &[19, 19, 19, 3, 3, 5],
     };
     let end = random.pick(ends);
@@ -134,7 +140,10 @@ fn time_in_u3(random: &mut Random, entries: &mut [Entry]) {
 /// The first entry in which another table's run of the same events differs,
 /// before one that the other table does not know.
 fn as_by_another(random: &mut Random, walk: &Walk, entries: &mut [Entry]) {
-    let others: Vec<Table> = TABLES.into_iter().filter(|t| *t != walk.table).collect();
+    let others: Vec<Table> = BROADCAST_TABLES
+        .into_iter()
+        .filter(|t| *t != walk.table)
+        .collect();
     let mut another = Walk::begin(random.pick(&others), walk.own.clone(), walk.chosen);
     for entry in &walk.entries {
         if carries(another.table, entry.event.number).is_none() {

@@ -3,7 +3,7 @@
 //! every row.
 
 use super::log::bytes;
-use super::messages;
+use super::messages::{self, Transaction};
 use super::random::Random;
 use crate::commands::Identity;
 use crate::context::Context;
@@ -114,8 +114,7 @@ impl Walk {
 
 /// An event in range that is likely to have a step in this context.
 pub fn likely_event(random: &mut Random, table: Table, context: &Context, own: &[u8]) -> Event {
-    let flag = context.state.received_flag().unwrap_or(1);
-    let value = context.transaction_value;
+    let transaction = likely_transaction(random, table, context);
     let mode = u32::from(random.octet() & 1);
     match random.below(20) {
         0..=12 => {
@@ -127,11 +126,11 @@ pub fn likely_event(random: &mut Random, table: Table, context: &Context, own: &
         }
         13 | 14 => {
             let kind = random.pick(&[Kind::GetStatus, Kind::SetParameter]);
-            Event::received(mode, messages::good(random, kind, flag, value, own))
+            Event::received(mode, messages::good(random, kind, transaction, own))
         }
         15..=17 => {
             let kind = messages::likely_kind(random, context.state);
-            let mut octets = messages::any(random, kind, flag, value, own);
+            let mut octets = messages::any(random, kind, transaction, own);
             octets.truncate(251);
             Event::received(mode, octets)
         }
@@ -139,6 +138,20 @@ pub fn likely_event(random: &mut Random, table: Table, context: &Context, own: &
             let number = random.pick(&all_but_messages(table));
             on_trigger(random, table, Trigger::Event(number), context, own)
         }
+    }
+}
+
+/// That of this call; where the call awaits its value, often another value.
+pub fn likely_transaction(random: &mut Random, table: Table, context: &Context) -> Transaction {
+    let protocol = table.protocol();
+    let value = match context.pending.value && random.one_in(2) {
+        true => random.octet() & 7,
+        false => context.transaction_value,
+    };
+    Transaction {
+        protocol,
+        flag: context.received_flag(protocol).unwrap_or(1),
+        value,
     }
 }
 
@@ -173,12 +186,11 @@ fn on_trigger(
     context: &Context,
     own: &[u8],
 ) -> Event {
-    let flag = context.state.received_flag().unwrap_or(1);
-    let value = context.transaction_value;
+    let transaction = likely_transaction(random, table, context);
     match trigger {
         Trigger::Message(kind) => {
             let mode = u32::from(random.octet() & 1);
-            Event::received(mode, messages::good(random, kind, flag, value, own))
+            Event::received(mode, messages::good(random, kind, transaction, own))
         }
         Trigger::Event(number) if carries(table, number) == Some(Carries::Call) => {
             Event::call(number, random.below(7) as u32, random.reference())

@@ -3,6 +3,7 @@
 use super::random::Random;
 use crate::message::kind::TYPE_CODES;
 use crate::message::{Fields, Kind, Message};
+use crate::protocol::Protocol;
 
 /// The length of a lent buffer, mostly a fit one.
 pub fn buffer_length(random: &mut Random) -> u32 {
@@ -13,7 +14,7 @@ pub fn buffer_length(random: &mut Random) -> u32 {
     }
 }
 
-pub fn command(random: &mut Random) -> String {
+pub fn command(random: &mut Random, protocol: Protocol) -> String {
     let buffer_length = buffer_length(random);
     let kind = random.pick(&TYPE_CODES).1;
     let mut fields = fields(random);
@@ -21,13 +22,17 @@ pub fn command(random: &mut Random) -> String {
     if kind == Kind::Status && random.one_in(3) {
         fields.state_attributes = None;
     }
+    if (protocol, kind) == (Protocol::Group, Kind::TerminationReject) && !random.one_in(4) {
+        let length = random.pick(&[3, 4, 4, 4, 5]);
+        fields.cause = random.octets(length);
+    }
     let message = Message {
         flag: random.octet() & 1,
         transaction_value: random.pick(&[0, 1, 2, 3, 4, 5, 6, 6, 0, 1, 6, 7, 8, 255]),
         kind,
         fields,
     };
-    crate::commands::write(buffer_length, &message)
+    crate::commands::write(protocol, buffer_length, &message)
 }
 
 fn fields(random: &mut Random) -> Fields {

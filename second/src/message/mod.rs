@@ -14,8 +14,6 @@ pub use kind::Kind;
 pub const LONGEST_MESSAGE: usize = 251;
 /// The shortest reply buffer that may be lent.
 pub const SHORTEST_BUFFER: u32 = 255;
-/// Document 01, rule 1: the low four bits of octet 1.
-pub const PROTOCOL_DISCRIMINATOR: u8 = 1;
 
 /// One message of any kind. A kind uses the fields that its table in clause 8
 /// names; the others keep their default.

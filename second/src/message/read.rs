@@ -2,8 +2,9 @@
 //! "Received messages", rules 2 and 3), driven by the tables of clause 8.
 
 use super::optional::elements;
-use super::table::{self, greatest_half, Element, Format, Presence};
-use super::{Fields, Kind, Message, LONGEST_MESSAGE, PROTOCOL_DISCRIMINATOR};
+use super::table::{self, greatest_half, Element, Format, Presence, Row};
+use super::{Fields, Kind, Message, LONGEST_MESSAGE};
+use crate::protocol::Protocol;
 
 /// The faults behind answer 13, by their numbers, and the length behind answer 6.
 #[derive(Clone, Copy, PartialEq, Eq, Debug)]
@@ -15,18 +16,18 @@ pub enum Unreadable {
     MandatoryPart,
 }
 
-pub fn read(octets: &[u8]) -> Result<Message, Unreadable> {
+pub fn read(protocol: Protocol, octets: &[u8]) -> Result<Message, Unreadable> {
     if octets.len() > LONGEST_MESSAGE {
         return Err(Unreadable::TooLong);
     }
     if octets.len() < 2 {
         return Err(Unreadable::UnderTwoOctets);
     }
-    if octets[0] & 0x0F != PROTOCOL_DISCRIMINATOR {
+    if octets[0] & 0x0F != protocol.discriminator() {
         return Err(Unreadable::Discriminator);
     }
     let kind = Kind::from_type_octet(octets[1]).ok_or(Unreadable::Type)?;
-    let fields = read_fields(kind, &octets[2..]).ok_or(Unreadable::MandatoryPart)?;
+    let fields = read_fields(protocol, kind, &octets[2..]).ok_or(Unreadable::MandatoryPart)?;
     Ok(Message {
         flag: octets[0] >> 7,
         transaction_value: octets[0] >> 4 & 7,
@@ -36,22 +37,23 @@ pub fn read(octets: &[u8]) -> Result<Message, Unreadable> {
 }
 
 /// The elements behind the message type; None as rule 3 says.
-pub fn read_fields(kind: Kind, octets: &[u8]) -> Option<Fields> {
+pub fn read_fields(protocol: Protocol, kind: Kind, octets: &[u8]) -> Option<Fields> {
     let mut fields = Fields::default();
-    let rest = read_mandatory(kind, octets, &mut fields)?;
+    let rows = table::of(protocol, kind);
+    let rest = read_mandatory(rows, octets, &mut fields)?;
     if elements(rest).any(|element| element.comprehension_required()) {
         return None;
     }
-    read_optional(kind, rest, &mut fields);
+    read_optional(rows, rest, &mut fields);
     Some(fields)
 }
 
 /// Takes the mandatory elements in the order of the table and gives what stands behind them.
-fn read_mandatory<'a>(kind: Kind, octets: &'a [u8], fields: &mut Fields) -> Option<&'a [u8]> {
+fn read_mandatory<'a>(rows: &[Row], octets: &'a [u8], fields: &mut Fields) -> Option<&'a [u8]> {
     let mut rest = octets;
     // The upper half of an octet whose lower half the element before has taken.
     let mut upper_half: Option<u8> = None;
-    for &(element, presence, format) in table::of(kind) {
+    for &(element, presence, format) in rows {
         if presence == Presence::O {
             continue;
         }
@@ -83,8 +85,8 @@ fn read_mandatory<'a>(kind: Kind, octets: &'a [u8], fields: &mut Fields) -> Opti
 }
 
 /// The first appearance of each optional element that the table names decides.
-fn read_optional(kind: Kind, rest: &[u8], fields: &mut Fields) {
-    for &(element, presence, format) in table::of(kind) {
+fn read_optional(rows: &[Row], rest: &[u8], fields: &mut Fields) {
+    for &(element, presence, format) in rows {
         if presence == Presence::M {
             continue;
         }

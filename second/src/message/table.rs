@@ -1,9 +1,11 @@
 //! Tables 8.1 to 8.9 of the standard, column by column: identifier, element,
 //! presence, format and length in octets. The first three rows of each table,
 //! protocol discriminator, transaction identifier and message type, are the
-//! same in all nine and stand in octets 1 and 2; they are left out here.
+//! same in all nine and stand in octets 1 and 2; they are left out here. Of the
+//! tables of 24.068 one alone is drawn otherwise, 8.8.
 
 use super::Kind;
+use crate::protocol::Protocol;
 
 #[derive(Clone, Copy, PartialEq, Eq, Debug)]
 pub enum Element {
@@ -90,10 +92,13 @@ const TERMINATION: &[Row] = &[(Cause, M, Lv(2, 248))];
 /// Table 8.8.
 const TERMINATION_REJECT: &[Row] = &[(Cause, M, Lv(2, 248))];
 
+/// Table 8.8 of 24.068: four octets without a length octet.
+const TERMINATION_REJECT_OF_GROUP: &[Row] = &[(Cause, M, V(4))];
+
 /// Table 8.9.
 const TERMINATION_REQUEST: &[Row] = &[(CallReference, M, V(4))];
 
-pub fn of(kind: Kind) -> &'static [Row] {
+pub fn of(protocol: Protocol, kind: Kind) -> &'static [Row] {
     match kind {
         Kind::Connect => CONNECT,
         Kind::GetStatus => GET_STATUS,
@@ -102,7 +107,10 @@ pub fn of(kind: Kind) -> &'static [Row] {
         Kind::Setup => SETUP,
         Kind::Status => STATUS,
         Kind::Termination => TERMINATION,
-        Kind::TerminationReject => TERMINATION_REJECT,
+        Kind::TerminationReject => match protocol {
+            Protocol::Broadcast => TERMINATION_REJECT,
+            Protocol::Group => TERMINATION_REJECT_OF_GROUP,
+        },
         Kind::TerminationRequest => TERMINATION_REQUEST,
     }
 }

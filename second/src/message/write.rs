@@ -2,31 +2,32 @@
 //! by the tables of clause 8.
 
 use super::table::{self, greatest_half, Element, Format};
-use super::{Fields, Message, LONGEST_MESSAGE, PROTOCOL_DISCRIMINATOR, SHORTEST_BUFFER};
+use super::{Fields, Message, LONGEST_MESSAGE, SHORTEST_BUFFER};
 use crate::answer::{BUFFER_SHORT, OUTSIDE_RANGE};
 use crate::context::GREATEST_TRANSACTION_VALUE;
+use crate::protocol::Protocol;
 
 /// The octets written, or the number of the refusal.
-pub fn write(buffer_length: u32, message: &Message) -> Result<Vec<u8>, u8> {
+pub fn write(protocol: Protocol, buffer_length: u32, message: &Message) -> Result<Vec<u8>, u8> {
     if buffer_length < SHORTEST_BUFFER {
         return Err(BUFFER_SHORT);
     }
-    compose(message).ok_or(OUTSIDE_RANGE)
+    compose(protocol, message).ok_or(OUTSIDE_RANGE)
 }
 
 /// The octets of a message, or None where a field is outside its range or the
 /// message would be too long.
-pub fn compose(message: &Message) -> Option<Vec<u8>> {
+pub fn compose(protocol: Protocol, message: &Message) -> Option<Vec<u8>> {
     let value = message.transaction_value;
     if message.flag > 1 || u32::from(value) > GREATEST_TRANSACTION_VALUE {
         return None;
     }
     let mut octets = vec![
-        message.flag << 7 | value << 4 | PROTOCOL_DISCRIMINATOR,
+        message.flag << 7 | value << 4 | protocol.discriminator(),
         message.kind.type_octet(),
     ];
     let mut lower_half: Option<u8> = None;
-    for &(element, _, format) in table::of(message.kind) {
+    for &(element, _, format) in table::of(protocol, message.kind) {
         match format {
             Format::HalfV => {
                 let half = half_of(&message.fields, element)?;
@@ -39,7 +40,13 @@ pub fn compose(message: &Message) -> Option<Vec<u8>> {
                     }
                 };
             }
-            Format::V(_) => octets.extend_from_slice(&message.fields.reference),
+            Format::V(length) => {
+                let value = octets_of(&message.fields, element)?;
+                if value.len() != length {
+                    return None;
+                }
+                octets.extend_from_slice(value);
+            }
             Format::Lv(shortest, longest) => {
                 let value = octets_of(&message.fields, element)?;
                 push_with_length(&mut octets, value, shortest - 1, longest - 1)?;
@@ -99,12 +106,13 @@ fn half_of(fields: &Fields, element: Element) -> Option<u8> {
     (value <= greatest_half(element)).then_some(value)
 }
 
-/// The value of an element with a length octet; None is an absent identity.
+/// The value of an element of whole octets; None is an absent identity.
 fn octets_of(fields: &Fields, element: Element) -> Option<&[u8]> {
     match element {
+        Element::CallReference => Some(&fields.reference),
         Element::MobileStationClassmark2 => Some(&fields.classmark),
         Element::MobileIdentity => fields.identity.as_deref(),
         Element::Cause => Some(&fields.cause),
-        _ => unreachable!("no length octet"),
+        _ => unreachable!("a half octet"),
     }
 }

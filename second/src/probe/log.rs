@@ -1,4 +1,4 @@
-//! The commands `judge` and `record`.
+//! The commands `judge`, `record` and `grecord`.
 
 use super::step::event_of;
 use super::tokens::*;
@@ -36,7 +36,7 @@ pub fn judge(fields: &[&[u8]]) -> Option<String> {
 }
 
 /// `record BUF USED DELTA EVENT ETV EREF MODE OCTETS ANSWER STATE PARAMS ACTIONS REPLY`
-pub fn record(fields: &[&[u8]]) -> Option<String> {
+pub fn record(table: Table, fields: &[&[u8]]) -> Option<String> {
     let [buffer, used, delta, event, value, reference, mode, received, claims @ ..] = fields else {
         return None;
     };
@@ -58,7 +58,7 @@ pub fn record(fields: &[&[u8]]) -> Option<String> {
         actions: number(actions, u32::MAX)?,
         reply: octets(reply)?,
     };
-    let recorded = record_entry(Table::NEWEST, &mut buffer, used as usize, &entry);
+    let recorded = record_entry(table, &mut buffer, used as usize, &entry);
     Some(match recorded {
         Err(answer) => answer.to_string(),
         Ok(used) => format!("{TAKEN} {used} {}", hexadecimal(&buffer)),

@@ -1,16 +1,18 @@
-//! The commands `read` and `write` and the form that messages have in them.
+//! The commands `read`, `write` and those of group calls, and the form that
+//! messages have in them.
 
 use super::tokens::*;
 use crate::answer::{MESSAGE_LONG, MESSAGE_UNREADABLE, TAKEN};
 use crate::message::read::{self, Unreadable};
 use crate::message::{write, Fields, Kind, Message};
+use crate::protocol::Protocol;
 
 /// `read OCTETS`
-pub fn read(fields: &[&[u8]]) -> Option<String> {
+pub fn read(protocol: Protocol, fields: &[&[u8]]) -> Option<String> {
     let [received] = fields else {
         return None;
     };
-    let fault = match read::read(&octets(received)?) {
+    let fault = match read::read(protocol, &octets(received)?) {
         Ok(message) => return Some(format!("{TAKEN} {}", form(&message))),
         Err(Unreadable::TooLong) => return Some(MESSAGE_LONG.to_string()),
         Err(Unreadable::UnderTwoOctets) => 1,
@@ -22,7 +24,7 @@ pub fn read(fields: &[&[u8]]) -> Option<String> {
 }
 
 /// `write BUFLEN FLAG TV KIND FIELDS..`
-pub fn write(fields: &[&[u8]]) -> Option<String> {
+pub fn write(protocol: Protocol, fields: &[&[u8]]) -> Option<String> {
     let [buffer_length, flag, value, kind, rest @ ..] = fields else {
         return None;
     };
@@ -34,7 +36,7 @@ pub fn write(fields: &[&[u8]]) -> Option<String> {
         fields: fields_of(kind, rest)?,
     };
     let buffer_length = number(buffer_length, u32::MAX)?;
-    Some(match write::write(buffer_length, &message) {
+    Some(match write::write(protocol, buffer_length, &message) {
         Err(answer) => answer.to_string(),
         Ok(written) => format!("{TAKEN} {}", hexadecimal(&written)),
     })

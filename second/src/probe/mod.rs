@@ -7,11 +7,15 @@ pub mod step;
 pub mod tokens;
 
 use crate::answer::SETTINGS_REFUSED;
+use crate::protocol::Protocol::{Broadcast, Group};
 use crate::settings;
+use crate::tables::Table;
 use std::io::{self, BufRead, Write};
 
-/// The six command words.
-pub const WORDS: [&str; 6] = ["read", "write", "step", "settings", "judge", "record"];
+/// The command words, those of group calls last.
+pub const WORDS: [&str; 10] = [
+    "read", "write", "step", "settings", "judge", "record", "gread", "gwrite", "gstep", "grecord",
+];
 
 /// The answer to what is no command.
 pub const MALFORMED: &str = "?";
@@ -39,12 +43,16 @@ pub fn answer(line: &[u8]) -> String {
     // either end, come out as malformed.
     let (word, fields) = (tokens[0], &tokens[1..]);
     let answered = match word {
-        b"read" => message::read(fields),
-        b"write" => message::write(fields),
-        b"step" => step::step(fields),
+        b"read" => message::read(Broadcast, fields),
+        b"write" => message::write(Broadcast, fields),
+        b"step" => step::step(Table::NEWEST, fields),
         b"settings" => settings_file(fields),
         b"judge" => log::judge(fields),
-        b"record" => log::record(fields),
+        b"record" => log::record(Table::NEWEST, fields),
+        b"gread" => message::read(Group, fields),
+        b"gwrite" => message::write(Group, fields),
+        b"gstep" => step::step(Table::Group, fields),
+        b"grecord" => log::record(Table::Group, fields),
         _ => None,
     };
     answered.unwrap_or_else(|| MALFORMED.to_string())

@@ -7,7 +7,7 @@ pub mod table;
 
 use crate::answer::*;
 use crate::context::{Context, GREATEST_TRANSACTION_VALUE};
-use crate::event::{carries, Carries, Event, UNACKNOWLEDGED};
+use crate::event::{carries, Carries, Event, TERMINATE, UNACKNOWLEDGED};
 use crate::message::{Kind, Message, LONGEST_MESSAGE, SHORTEST_BUFFER};
 use crate::own::Own;
 use crate::reason::{Reason, NO_REASON};
@@ -83,13 +83,14 @@ pub fn step(
         return received::step(table, context, own, event);
     }
     match table::find(table, context, Trigger::Event(event.number)) {
-        Some(row) => take(row, context, own, event, None),
+        Some(row) => take(table, row, context, own, event, None),
         None => Outcome::quiet(context, NO_STEP),
     }
 }
 
-/// Takes a row of the step table.
+/// Takes a row of the step table, and sends what was pending if now it can be.
 pub fn take(
+    table: Table,
     row: &Row,
     context: &Context,
     own: &Own,
@@ -98,16 +99,41 @@ pub fn take(
 ) -> Outcome {
     let after = context_after(row, context, event, message);
     let reply = match sent(row) {
-        Some(kind) => reply::call_message(kind, &after, own),
+        Some(kind) => reply::call_message(table.protocol(), kind, &after, own),
         None => Vec::new(),
     };
-    Outcome {
+    let outcome = Outcome {
         answer: TAKEN,
         reason: None,
         context: after,
         actions: row.actions,
         reply,
+    };
+    flushed(table, outcome, own)
+}
+
+/// What was pending goes out behind the row's own message as soon as COMM is
+/// true: first STATUS, which so shows the state before U5, then TERMINATION
+/// REQUEST, if the MS still takes itself for the originator.
+pub fn flushed(table: Table, mut outcome: Outcome, own: &Own) -> Outcome {
+    let context = &mut outcome.context;
+    if !context.parameters.comm {
+        return outcome;
     }
+    if context.pending.status {
+        context.pending.status = false;
+        let status = reply::asked_status(table.protocol(), context);
+        outcome.reply.extend(status);
+    }
+    if context.pending.termination && context.parameters.orig {
+        context.pending.termination = false;
+        let row = table::find(table, context, Trigger::Event(TERMINATE))
+            .expect("it pends where it can be asked for");
+        let asked = take(table, row, context, own, &Event::plain(TERMINATE), None);
+        outcome.context = asked.context;
+        outcome.reply.extend(asked.reply);
+    }
+    outcome
 }
 
 fn context_after(
@@ -132,19 +158,39 @@ fn context_after(
             Effect::StoreItsReference => {
                 after.reference = message.expect("a message's row").fields.reference;
             }
+            Effect::OrigAsTold => {
+                let told = message
+                    .expect("a message's row")
+                    .fields
+                    .originator_indication;
+                after.parameters.orig = told == 1;
+            }
+            Effect::ChosenBy(chooser) => after.chooser = chooser,
             Effect::Send(_) => (),
             Effect::Set(timer) => after.timers.turn(timer, true),
             Effect::Stop(timer) => after.timers.turn(timer, false),
             Effect::Remember => after.remembered = Some(context.state),
             Effect::Forget => after.remembered = None,
+            Effect::PendTermination => after.pending.termination = true,
+            Effect::DeleteTermination => after.pending.termination = false,
+            Effect::PendStatus => after.pending.status = true,
         }
     }
     // A step that stays in its state keeps the parameters.
     if next != context.state {
-        after.state = next;
-        after.parameters = next.start_row();
+        enter(&mut after, next);
     }
     after
+}
+
+/// Entering a state sets its row. Who waits for the uplink and does not take
+/// itself for the originator learns the value from the next message.
+fn enter(context: &mut Context, state: State) {
+    context.state = state;
+    context.parameters = context.parameters.on_entering(state);
+    if state == State::U2ws && !context.parameters.orig {
+        context.pending.value = true;
+    }
 }
 
 /// The message that a row sends, if it sends one.

@@ -10,7 +10,7 @@ use crate::log::record::record;
 use crate::own::Own;
 use crate::probe::answer;
 use crate::step::table::Row;
-use crate::tables::TABLES;
+use crate::tables::{BROADCAST_TABLES, TABLES};
 use crate::timer::Length;
 
 fn commands(seed: u64, count: u64, word: &str) -> Vec<String> {
@@ -98,8 +98,13 @@ fn triggered(trigger: &crate::step::table::Trigger, entry: &crate::log::entry::E
 
 #[test]
 fn what_was_written_is_read_back() {
+    written_is_read_back("write", "read");
+    written_is_read_back("gwrite", "gread");
+}
+
+fn written_is_read_back(write: &str, read: &str) {
     let mut written = 0;
-    for line in commands(3, 5_000, "write") {
+    for line in commands(3, 5_000, write) {
         let Some(octets) = answer(line.as_bytes())
             .strip_prefix("0 ")
             .map(str::to_string)
@@ -109,7 +114,7 @@ fn what_was_written_is_read_back() {
         written += 1;
         let message: Vec<&str> = line.splitn(3, ' ').collect();
         assert_eq!(
-            answer(format!("read {octets}").as_bytes()),
+            answer(format!("{read} {octets}").as_bytes()),
             format!("0 {}", message[2])
         );
     }
@@ -148,14 +153,16 @@ fn the_same_seed_gives_the_same_commands() {
 
 #[test]
 fn every_reason_is_reached_often() {
-    let mut reasons = [0; 7];
-    for line in commands(8, 20_000, "step") {
-        let answered = answer(line.as_bytes());
-        if let Some(reason) = answered.split(' ').nth(9) {
-            reasons[reason.parse::<usize>().unwrap()] += 1;
+    for (word, place) in [("step", 9), ("gstep", 11)] {
+        let mut reasons = [0; 7];
+        for line in commands(8, 20_000, word) {
+            let answered = answer(line.as_bytes());
+            if let Some(reason) = answered.split(' ').nth(place) {
+                reasons[reason.parse::<usize>().unwrap()] += 1;
+            }
         }
+        assert!(reasons.iter().all(|&count| count > 100), "{reasons:?}");
     }
-    assert!(reasons.iter().all(|&count| count > 100), "{reasons:?}");
 }
 
 /// Commands by chance with their answers, both in tokens; spoilt lines left out.
@@ -213,6 +220,40 @@ fn invitations_are_reached_often() {
 }
 
 #[test]
+fn group_calls_are_reached_often() {
+    let steps = asked(13, "gstep");
+    let count = |fits: &dyn Fn(&[String], &[String]) -> bool| {
+        steps.iter().filter(|(line, got)| fits(line, got)).count()
+    };
+    // Fit contexts of each state, everything pending in each sub-state but what
+    // COMM forbids, and every place that is remembered.
+    for state in [0, 1, 2, 4, 5, 6, 8, 9, 10, 11, 12, 13] {
+        let state = state.to_string();
+        assert!(count(&|line, got| line[1] == state && got[0] != "7") > 1_000);
+    }
+    for pending in 0..=7 {
+        let pending = pending.to_string();
+        assert!(count(&|line, got| line[8] == pending && got[0] != "7") > 300);
+    }
+    for from in ["2", "8", "9", "11", "12"] {
+        assert!(count(&|line, got| line[6] == from && got[1] == from && got[0] == "0") > 10);
+    }
+    // Two messages in one reply; a value told; U5 by what was pending.
+    assert!(count(&|_, got| got[0] == "0" && got[10].len() == 24) > 30);
+    assert!(count(&|line, got| got[0] == "0" && line[13] == "18" && got[4] != line[4]) > 100);
+    assert!(count(&|line, got| got[0] == "0" && line[1] != "6" && got[1] == "6") > 100);
+    // Logs of version 16, true ones and others.
+    let logs = asked(14, "judge");
+    let judged = |answered: &str| {
+        let group = |(line, got): &&(Vec<String>, Vec<String>)| {
+            line[4].starts_with("10") && got[0] == answered
+        };
+        logs.iter().filter(group).count()
+    };
+    assert!(judged("0") > 1_000 && judged("9") > 500 && judged("8") > 200);
+}
+
+#[test]
 fn every_answer_number_is_reached() {
     let reached = |word: &str| {
         let mut answers: Vec<String> = commands(7, 20_000, word)
@@ -230,12 +271,16 @@ fn every_answer_number_is_reached() {
     assert_eq!(reached("settings"), "0 12 ?");
     assert_eq!(reached("judge"), "0 10 4 8 9 ?");
     assert_eq!(reached("record"), "0 10 11 4 ?");
+    assert_eq!(reached("gread"), "0 13 6 ?");
+    assert_eq!(reached("gwrite"), "0 4 5 ?");
+    assert_eq!(reached("gstep"), "0 1 2 3 4 5 6 7 ?");
+    assert_eq!(reached("grecord"), "0 10 11 4 ?");
 }
 
 #[test]
 fn runs_by_each_table_are_judged_under_each_version() {
     let mut random = Random::from_seed(9);
-    for table in TABLES.into_iter().cycle().take(400) {
+    for table in BROADCAST_TABLES.into_iter().cycle().take(400) {
         let lines = versions::round(&mut random, table);
         // True and changed, each under 1, under 2 and under 3.
         assert_eq!(lines.len(), 6);

@@ -1,10 +1,14 @@
 //! The program's own tests. Expected octets are worked out by hand from the
-//! papers. Three files compare the program with itself and say nothing about
-//! the papers: `generated`, `vectors`, and of `tables` the test that steps keep
-//! contexts fit. `pairs` holds the judge to the step, one pair of timers at a time.
+//! papers. Some compare the program with itself and say nothing about the
+//! papers: `generated`, `vectors`, and of `tables` and `group_matrix` the tests
+//! that steps keep contexts fit and that the fixed set has every cell. `pairs`
+//! holds the judge to the step, one pair of timers at a time.
 
 mod cases;
 mod generated;
+mod group_calls;
+mod group_logs;
+mod group_matrix;
 mod invitations;
 mod limits;
 mod lines;

@@ -1,12 +1,12 @@
-//! Properties of the tables: start rows, fitness by each step table, and that
+//! Properties of the broadcast tables: start rows, fitness by each step table, and that
 //! steps keep contexts fit.
 
 use crate::context::Context;
 use crate::event::{all_but_messages, carries, Event};
 use crate::own::Own;
-use crate::state::{Parameters, State, STATES};
+use crate::state::{Parameters, State, BROADCAST_STATES};
 use crate::step::step;
-use crate::tables::{Table, TABLES};
+use crate::tables::{Table, BROADCAST_TABLES};
 use crate::timer::RunningTimers;
 
 const OWN: Own = Own {
@@ -19,7 +19,7 @@ const OWN: Own = Own {
 /// 5 or 7.
 fn contexts() -> Vec<Context> {
     let mut all = Vec::new();
-    for state in STATES {
+    for state in BROADCAST_STATES {
         for number in 0..512 {
             for transaction_value in [0, 5, 7] {
                 let plain = Context {
@@ -27,10 +27,9 @@ fn contexts() -> Vec<Context> {
                     parameters: Parameters::from_number((number >> 5) as u8),
                     timers: RunningTimers::from_number((number & 31) as u8),
                     transaction_value,
-                    reference: [0; 4],
-                    remembered: None,
+                    ..Context::cleared()
                 };
-                all.extend(STATES.map(|state| Context {
+                all.extend(BROADCAST_STATES.map(|state| Context {
                     remembered: Some(state),
                     ..plain.clone()
                 }));
@@ -50,8 +49,8 @@ fn fit_contexts_are_counted() {
     // one of two states remembered.
     let expected = [1, 16, 32, 16, 4, 4, 32, 8];
     let contexts = contexts();
-    for table in TABLES {
-        for state in STATES {
+    for table in BROADCAST_TABLES {
+        for state in BROADCAST_STATES {
             let fit = contexts
                 .iter()
                 .filter(|context| context.state == state && context.is_fit(table))
@@ -65,7 +64,7 @@ fn fit_contexts_are_counted() {
 #[test]
 fn the_third_table_parts_from_the_second_in_u3_alone() {
     for context in contexts() {
-        let [_, second, third] = TABLES.map(|table| context.is_fit(table));
+        let [_, second, third] = BROADCAST_TABLES.map(|table| context.is_fit(table));
         if context.state != State::U3 {
             assert_eq!(second, third);
             // In no table T_pres runs elsewhere.
@@ -85,7 +84,7 @@ fn the_third_table_parts_from_the_second_in_u3_alone() {
 #[test]
 fn the_first_two_tables_part_in_u5_alone() {
     for context in contexts() {
-        let [first, second, _] = TABLES.map(|table| context.is_fit(table));
+        let [first, second, _] = BROADCAST_TABLES.map(|table| context.is_fit(table));
         if context.state != State::U5 {
             assert_eq!(first, second);
             assert!(!first || context.remembered.is_none());
@@ -108,7 +107,7 @@ fn the_first_two_tables_part_in_u5_alone() {
 
 #[test]
 fn u0_is_cleared_or_not_fit() {
-    for table in TABLES {
+    for table in BROADCAST_TABLES {
         let mut context = Context::cleared();
         assert!(context.is_fit(table));
         context.reference = [0, 0, 0, 1];
@@ -121,7 +120,8 @@ fn versions() {
     assert_eq!(Table::of_version(1), Some(Table::First));
     assert_eq!(Table::of_version(2), Some(Table::Second));
     assert_eq!(Table::of_version(3), Some(Table::Third));
-    for version in [0, 4, 5, 15, 16, 17, 129, 131, 4_294_967_295] {
+    assert_eq!(Table::of_version(16), Some(Table::Group));
+    for version in [0, 4, 5, 15, 17, 129, 131, 144, 4_294_967_295] {
         assert_eq!(Table::of_version(version), None);
     }
     assert_eq!(Table::NEWEST, Table::Third);
@@ -129,7 +129,7 @@ fn versions() {
 
 #[test]
 fn event_19_belongs_to_the_third_table() {
-    for table in TABLES {
+    for table in BROADCAST_TABLES {
         let has_it = table == Table::Third;
         assert_eq!(carries(table, 19).is_some(), has_it);
         assert_eq!(all_but_messages(table).contains(&19), has_it);
@@ -152,7 +152,7 @@ fn every_step_keeps_the_context_fit() {
             }
         }
     }
-    for table in TABLES {
+    for table in BROADCAST_TABLES {
         for context in contexts().iter().filter(|context| context.is_fit(table)) {
             for number in all_but_messages(table) {
                 let event = Event::call(number, 6, [1, 2, 3, 4]);
@@ -184,7 +184,7 @@ fn stays_fit_when_it_hears(table: Table, context: &Context, event: &Event) {
 fn start_rows_are_consistent() {
     // 6.1.2.1.2 to 6.1.2.1.9, as 8 ORIG + 4 COMM + 2 D-ATT + U-ATT.
     let rows = [0, 8, 12, 15, 0, 0, 15, 2];
-    for (state, row) in STATES.iter().zip(rows) {
+    for (state, row) in BROADCAST_STATES.iter().zip(rows) {
         assert_eq!(state.start_row().number(), row);
         assert!(state.start_row().consistent_with(*state));
     }
@@ -193,7 +193,7 @@ fn start_rows_are_consistent() {
 #[test]
 fn call_states_of_table_9_3() {
     let codes = [0, 6, 1, 2, 3, 4, 5, 7];
-    for (state, code) in STATES.iter().zip(codes) {
+    for (state, code) in BROADCAST_STATES.iter().zip(codes) {
         assert_eq!(state.call_state(), code);
     }
 }

@@ -1,10 +1,10 @@
 //! The fixed sets show every answer and every row, and are not too long.
 
-use crate::probe::{answer, WORDS};
-use crate::state::State;
+use crate::probe::answer;
+use crate::state::{State, BROADCAST_STATES};
 use crate::step::table::{Next, Trigger};
 use crate::tables::Table;
-use crate::vectors::lines;
+use crate::vectors::{lines, SETS};
 use std::collections::{BTreeSet, HashMap};
 
 /// The answer numbers that a word's set comes to, in order.
@@ -30,6 +30,15 @@ fn every_answer_is_there() {
     assert_eq!(reached("settings"), ["0", "12", "?"]);
     assert_eq!(reached("judge"), ["0", "10", "4", "8", "9", "?"]);
     assert_eq!(reached("record"), ["0", "10", "11", "4", "?"]);
+    assert_eq!(reached("gread"), ["0", "13", "6", "?"]);
+    assert_eq!(reached("gwrite"), ["0", "4", "5", "?"]);
+    assert_eq!(
+        reached("gstep"),
+        ["0", "1", "2", "3", "4", "5", "6", "7", "?"]
+    );
+    assert_eq!(reached("grecord"), ["0", "10", "11", "4", "?"]);
+    // Length, settings and malformed lines are the other set's.
+    assert_eq!(reached("judge16"), ["0", "8", "9"]);
 }
 
 #[test]
@@ -41,7 +50,10 @@ fn every_row_is_taken() {
         .map(|(answered, line)| (line, answered))
         .collect();
     for row in Table::NEWEST.rows() {
-        for (state, next) in row.states.iter().flat_map(|state| leads(*state, row.next)) {
+        let states = BROADCAST_STATES
+            .into_iter()
+            .filter(|state| row.states.contains(state));
+        for (state, next) in states.flat_map(|state| leads(state, row.next)) {
             let found = asked.iter().any(|(line, answered)| {
                 let given: Vec<&str> = line.split(' ').collect();
                 let got: Vec<&str> = answered.split(' ').collect();
@@ -65,6 +77,7 @@ fn every_row_is_taken() {
 fn leads(state: State, next: Next) -> Vec<(State, State)> {
     match next {
         Next::To(next) => vec![(state, next)],
+        Next::Same => vec![(state, state)],
         Next::Back => {
             let asked_from = Table::NEWEST.asked_from().iter();
             asked_from.map(|next| (state, *next)).collect()
@@ -78,7 +91,7 @@ fn every_pair_without_a_row_is_there() {
         .into_iter()
         .filter(|line| answer(line.as_bytes()).starts_with("3 "))
         .collect();
-    for state in crate::state::STATES {
+    for state in BROADCAST_STATES {
         for event in (1..=17).chain([19]) {
             let has_row = Table::NEWEST
                 .rows()
@@ -92,17 +105,19 @@ fn every_pair_without_a_row_is_there() {
     }
 }
 
-/// State, mode and reason of each message that is ignored.
-fn ignored() -> BTreeSet<(u8, u8, u8)> {
+/// State, mode and reason of each message that is ignored; the mode is the last
+/// but one of a command.
+fn ignored(set: &str) -> BTreeSet<(u8, u8, u8)> {
     let number = |token: &str| token.parse().expect("a number");
-    lines("step")
+    lines(set)
         .iter()
         .map(|line| (line, answer(line.as_bytes())))
         .filter(|(_, answered)| answered.starts_with("1 "))
         .map(|(line, answered)| {
             let given: Vec<&str> = line.split(' ').collect();
-            let reason = answered.rsplit(' ').next().expect("ten tokens");
-            (number(given[1]), number(given[14]), number(reason))
+            let reason = answered.rsplit(' ').next().expect("its last token");
+            let mode = given[given.len() - 2];
+            (number(given[1]), number(mode), number(reason))
         })
         .collect()
 }
@@ -119,7 +134,40 @@ fn every_reason_is_there_where_it_can_be() {
     }
     // Only an unacknowledged message can be for another.
     possible.extend((1..=7).map(|state| (state, 1, 5)));
-    assert_eq!(ignored(), possible);
+    assert_eq!(ignored("step"), possible);
+    // A group call too; of U2 each sub-state, and no U6.
+    let mut possible = BTreeSet::from([(0, 0, 1)]);
+    for state in [1, 2, 4, 5, 6, 8, 9, 10, 11, 12, 13] {
+        possible.extend([2, 3, 4, 6].map(|reason| (state, 0, reason)));
+        possible.insert((state, 1, 5));
+    }
+    assert!(ignored("gstep").is_superset(&possible));
+}
+
+#[test]
+fn everything_pending_is_there_where_it_can_be() {
+    // State, ORIG and COMM, and what is pending, of the fit contexts.
+    let mut shown = BTreeSet::new();
+    for line in lines("gstep") {
+        let given: Vec<&str> = line.split(' ').collect();
+        if !["?", "7"].contains(&answer(line.as_bytes()).split(' ').next().unwrap()) {
+            let parameters: u8 = given[2].parse().unwrap();
+            shown.insert((given[1].to_string(), parameters >> 2, given[8].to_string()));
+        }
+    }
+    for state in ["2", "8", "9", "10", "11", "12", "13"] {
+        // ORIG with COMM has nothing, ORIG alone two things, COMM alone two others.
+        let without_comm = ["10", "13"].contains(&state);
+        for (parameters, fit) in [(3, "0"), (2, "0246"), (1, "0145"), (0, "01234567")] {
+            for pending in fit.chars() {
+                let awaits_in_u1 = state == "2" && "1357".contains(pending);
+                let inconsistent = without_comm && parameters & 1 == 1;
+                let possible = !awaits_in_u1 && !inconsistent;
+                let wanted = (state.to_string(), parameters, pending.to_string());
+                assert_eq!(shown.contains(&wanted), possible, "{wanted:?}");
+            }
+        }
+    }
 }
 
 /// Of the logs that stand behind all these versions with the same entries: by
@@ -165,7 +213,7 @@ fn logs_under_two_numbers_are_there() {
 #[test]
 fn sizes() {
     let mut bytes = 0;
-    for word in WORDS {
+    for word in SETS {
         let lines = lines(word);
         assert!(
             (300..=6_500).contains(&lines.len()),
@@ -175,5 +223,5 @@ fn sizes() {
         bytes += lines.iter().map(|line| line.len() + 1).sum::<usize>();
         assert!(lines.iter().all(|line| !line.contains('\n')));
     }
-    assert!(bytes < 6_000_000);
+    assert!(bytes < 8_000_000);
 }

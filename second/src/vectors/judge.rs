@@ -249,7 +249,7 @@ pub fn claims(lines: &mut Vec<String>, table: Table, entries: &[Entry]) {
             let entry = &mut changed[place];
             match change {
                 0 => entry.answer = (entry.answer + 1) % 4,
-                1 => entry.state = (entry.state + 1) % 8,
+                1 => entry.state = (entry.state + 1) % (table.greatest_state() + 1),
                 2 => entry.parameters ^= 1 << (place % 4),
                 3 => entry.actions ^= 1 << (place % 6),
                 4 => entry.reply.push(0),

@@ -8,7 +8,7 @@ use super::judge::{CONNECT, TERMINATION_TO_LISTENER};
 use super::judge_limits::entries;
 use super::judge_versions::{joining_timer, longer_forms, RETURNS};
 use crate::generate::log::bytes;
-use crate::tables::{Table, TABLES};
+use crate::tables::{Table, BROADCAST_TABLES};
 
 const NONE: &[u8] = &[];
 const GET_STATUS_TO_LISTENER: &[u8] = &[0x51, 0x39];
@@ -116,7 +116,7 @@ fn under_other_numbers(lines: &mut Vec<String>) {
     for script in INVITATIONS {
         let entries = run(Table::Third, script);
         for length in 1..=entries.len() {
-            for table in TABLES {
+            for table in BROADCAST_TABLES {
                 push(lines, &bytes(table, &entries[..length]));
             }
         }
@@ -135,7 +135,7 @@ fn unknown_to_the_first_two(lines: &mut Vec<String>) {
         &in_u0[1..],
         &in_u0[2..],
     ] {
-        for table in TABLES {
+        for table in BROADCAST_TABLES {
             push(lines, &bytes(table, entries));
             // As taken, where it is not; and the entry before it as taken.
             let mut changed = entries.to_vec();
@@ -183,7 +183,7 @@ fn times(lines: &mut Vec<String>) {
     }
     // What the first two tables give to a day in U3: they have no timer there.
     for delta in TIMES {
-        for table in TABLES {
+        for table in BROADCAST_TABLES {
             push(
                 lines,
                 &true_log(table, &[NOTIFIED, &[(delta, 3, NONE)]].concat()),

@@ -86,8 +86,10 @@ fn fields(lines: &mut Vec<String>, table: Table) {
     let event = match table {
         Table::First | Table::Second => 18,
         Table::Third => 19,
+        Table::Group => 36,
     };
-    let greatest = [86_400_000, event, 3, 7, 15, 63, 255];
+    let (state, actions) = (table.greatest_state(), table.greatest_actions());
+    let greatest = [86_400_000, event, 3, state, 15, actions, 255];
     for (place, limit) in greatest.into_iter().enumerate() {
         for number in [
             0,
@@ -111,7 +113,11 @@ fn fields(lines: &mut Vec<String>, table: Table) {
 
 /// Each event with no data, with a call's and with a message's; values and modes.
 fn event_data(lines: &mut Vec<String>, table: Table) {
-    for event in 0..=20 {
+    let events = match table {
+        Table::Group => 0..=38,
+        _ => 0..=20,
+    };
+    for event in events {
         let mut numbers = JOIN_IN_U0;
         numbers[1] = event;
         push(lines, &log(table, numbers, &[], 0));
@@ -198,7 +204,12 @@ fn runs(lines: &mut Vec<String>, table: Table) {
 fn precedence(lines: &mut Vec<String>, table: Table) {
     let good = &log(table, JOIN_IN_U0, &[], 0)[1..];
     let unexplained = &log(table, [0, 3, 0, 0, 0, 0, 0], &[], 0)[1..];
-    let both = &log(table, [0, 3, 0, 8, 0, 0, 0], &[], 0)[1..];
+    let both = &log(
+        table,
+        [0, 3, 0, table.greatest_state() + 1, 0, 0, 0],
+        &[],
+        0,
+    )[1..];
     let unreadable = &[0x80, 0x00][..];
     let sorts = [good, unexplained, both, unreadable, &good[..3], &[]];
     let version = &bytes(table, &[])[..];

@@ -2,7 +2,7 @@
 //! right behind the greatest number, and every way to write a token wrongly.
 
 /// A good line of each word.
-const GOOD: [(&str, &str); 6] = [
+const GOOD: [(&str, &str); 10] = [
     ("read", "read d139"),
     (
         "write",
@@ -17,6 +17,16 @@ const GOOD: [(&str, &str); 6] = [
     (
         "record",
         "record eeeeeeeeeeeeeeee 0 0 3 0 00000000 0 d139 3 0 0 0 51",
+    ),
+    ("gread", "gread d039"),
+    ("gwrite", "gwrite 255 0 5 termination_reject 98000000"),
+    (
+        "gstep",
+        "gstep 0 0 0 0 00000000 0 0 0 3 3359a2 29f1 255 2 5 0a0b0c0d 0 d039",
+    ),
+    (
+        "grecord",
+        "grecord eeeeeeeeeeeeeeee 0 0 3 0 00000000 0 d039 3 0 0 0 51",
     ),
 ];
 
@@ -39,8 +49,11 @@ const INSTEAD: [&str; 15] = [
     "0x1",
 ];
 
+/// Those of the word that a set is named after; a set of another name has none.
 pub fn all(word: &str, lines: &mut Vec<String>) {
-    let good = GOOD.iter().find(|row| row.0 == word).expect("one of six").1;
+    let Some((_, good)) = GOOD.iter().find(|row| row.0 == word) else {
+        return;
+    };
     let tokens: Vec<&str> = good.split(' ').collect();
     for place in 1..tokens.len() {
         for instead in INSTEAD {

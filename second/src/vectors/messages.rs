@@ -1,6 +1,9 @@
 //! One good message of each kind, in octets by hand from tables 8.1 to 8.9 and
 //! 9.1, for flag 1 and value 5; and the octets of odds and ends.
 
+use crate::commands;
+use crate::protocol::Protocol;
+
 /// The name, the octets, and whether the MS receives this kind.
 pub const EXAMPLES: [(&str, &[u8], bool); 9] = [
     // 8.1: reference, originator indication in bits 1 to 4.
@@ -33,6 +36,16 @@ pub const EXAMPLES: [(&str, &[u8], bool); 9] = [
     ),
 ];
 
+/// The examples of this protocol, still addressed as of broadcast calls: in a
+/// group call a TERMINATION REJECT has four octets of cause without a length octet.
+pub fn examples(protocol: Protocol) -> [(&'static str, &'static [u8], bool); 9] {
+    let four_octets: &[u8] = &[0xD1, 0x36, 0x98, 0x00, 0x00, 0x00];
+    EXAMPLES.map(|(name, octets, receives)| match (protocol, name) {
+        (Protocol::Group, "termination_reject") => (name, four_octets, receives),
+        _ => (name, octets, receives),
+    })
+}
+
 /// The octets of the example of this name.
 pub fn example(name: &str) -> Vec<u8> {
     EXAMPLES
@@ -41,6 +54,23 @@ pub fn example(name: &str) -> Vec<u8> {
         .expect("a name of the table")
         .1
         .to_vec()
+}
+
+/// Octets written down for broadcast calls, as they are for this protocol: for
+/// group calls the discriminators 0 and 1 change places.
+pub fn of_protocol(protocol: Protocol, octets: &[u8]) -> Vec<u8> {
+    let mut octets = octets.to_vec();
+    if let (Protocol::Group, Some(first)) = (protocol, octets.first_mut()) {
+        if *first & 0x0F <= 1 {
+            *first ^= 1;
+        }
+    }
+    octets
+}
+
+/// Reads octets that are written down for broadcast calls.
+pub fn read(protocol: Protocol, octets: &[u8]) -> String {
+    commands::read(protocol, &of_protocol(protocol, octets))
 }
 
 /// These octets with others behind them.

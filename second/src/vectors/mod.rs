@@ -2,6 +2,12 @@
 //! row of its tables and of document 02's, each table of clause 8 of the
 //! standard, and its cases.
 
+pub mod group_judge;
+pub mod group_messages;
+pub mod group_record;
+pub mod group_step;
+pub mod group_step_limits;
+pub mod group_step_pending;
 pub mod judge;
 pub mod judge_invitations;
 pub mod judge_limits;
@@ -21,24 +27,31 @@ pub mod step_received;
 pub mod step_returns;
 pub mod write;
 
+use crate::protocol::Protocol;
 use std::collections::HashSet;
 use std::io::{self, Write};
 
-/// Prints the fixed set for one of the six words.
-pub fn run(word: &str, output: &mut dyn Write) -> io::Result<()> {
-    for line in lines(word) {
+/// The fixed sets, each named after its command word; group logs have their own.
+pub const SETS: [&str; 11] = [
+    "read", "write", "step", "settings", "judge", "record", "gread", "gwrite", "gstep", "grecord",
+    "judge16",
+];
+
+/// Prints one of the fixed sets.
+pub fn run(set: &str, output: &mut dyn Write) -> io::Result<()> {
+    for line in lines(set) {
         output.write_all(line.as_bytes())?;
         output.write_all(b"\n")?;
     }
     Ok(())
 }
 
-pub fn lines(word: &str) -> Vec<String> {
+pub fn lines(set: &str) -> Vec<String> {
     let mut lines = Vec::new();
-    match word {
+    match set {
         "read" => {
-            read::all(&mut lines);
-            read_optional::all(&mut lines);
+            read::all(&mut lines, Protocol::Broadcast);
+            read_optional::all(&mut lines, Protocol::Broadcast);
         }
         "write" => write::all(&mut lines),
         "step" => {
@@ -57,9 +70,18 @@ pub fn lines(word: &str) -> Vec<String> {
             judge_versions::all(&mut lines);
             judge_invitations::all(&mut lines);
         }
-        _ => record::all(&mut lines),
+        "record" => record::all(&mut lines),
+        "gread" => group_messages::to_read(&mut lines),
+        "gwrite" => group_messages::to_write(&mut lines),
+        "gstep" => {
+            group_step::all(&mut lines);
+            group_step_pending::all(&mut lines);
+            group_step_limits::all(&mut lines);
+        }
+        "grecord" => group_record::all(&mut lines),
+        _ => group_judge::all(&mut lines),
     }
-    malformed::all(word, &mut lines);
+    malformed::all(set, &mut lines);
     // Where two tables meet, a command comes up twice; once is enough.
     let mut seen = HashSet::new();
     lines.retain(|line| seen.insert(line.clone()));

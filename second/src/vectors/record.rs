@@ -18,7 +18,7 @@ pub fn all(lines: &mut Vec<String>) {
     longest(lines);
 }
 
-fn buffer(length: usize) -> String {
+pub fn buffer(length: usize) -> String {
     hexadecimal(
         &(0..length)
             .map(|place| 0xE0 | place as u8 & 0x0F)

@@ -5,7 +5,7 @@
 use super::step::{received, step, OWN};
 use super::step_limits::{asked_timers, value_and_reference};
 use crate::probe::tokens::hexadecimal;
-use crate::state::{State, STATES};
+use crate::state::{State, BROADCAST_STATES};
 
 const NOTHING: &str = "0 00000000 0 -";
 const TERMINATION: &[u8] = &[0x51, 0x34, 0x01, 0x90];
@@ -62,7 +62,10 @@ fn ends(lines: &mut Vec<String>) {
 /// Its expiry in each other state, with the timers that run there and with T_pres
 /// besides; U5 with either state remembered.
 fn elsewhere(lines: &mut Vec<String>) {
-    for state in STATES.into_iter().filter(|state| *state != State::U3) {
+    for state in BROADCAST_STATES
+        .into_iter()
+        .filter(|state| *state != State::U3)
+    {
         let (number, row) = (state.number(), state.start_row().number());
         let (value, reference) = value_and_reference(state);
         let froms: &[u8] = if state == State::U5 { &[2, 3] } else { &[0] };

@@ -3,7 +3,7 @@
 
 use super::step::{step, CONTEXTS, OWN};
 use crate::probe::tokens::hexadecimal;
-use crate::state::{State, STATES};
+use crate::state::{State, BROADCAST_STATES};
 
 pub fn all(lines: &mut Vec<String>) {
     fitness(lines);
@@ -36,7 +36,7 @@ pub fn value_and_reference(state: State) -> (u8, &'static str) {
 /// In each state all parameters beside the timers that it asks for, and all
 /// timers beside its start row.
 fn fitness(lines: &mut Vec<String>) {
-    for state in STATES {
+    for state in BROADCAST_STATES {
         let number = state.number();
         let row = state.start_row().number();
         let asked = asked_timers(state);

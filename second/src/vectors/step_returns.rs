@@ -5,7 +5,7 @@
 use super::step::{received, step, OWN};
 use super::step_limits::{asked_timers, value_and_reference};
 use crate::probe::tokens::hexadecimal;
-use crate::state::STATES;
+use crate::state::BROADCAST_STATES;
 
 const REJECT: &[u8] = &[0xD1, 0x36, 0x01, 0x98];
 
@@ -20,7 +20,7 @@ pub fn all(lines: &mut Vec<String>) {
 
 /// Anything remembered in each state.
 fn remembered(lines: &mut Vec<String>) {
-    for state in STATES {
+    for state in BROADCAST_STATES {
         let (number, row) = (state.number(), state.start_row().number());
         let (value, reference) = value_and_reference(state);
         let timers = asked_timers(state);

@@ -4,7 +4,7 @@
 use crate::probe::tokens::hexadecimal;
 
 /// Fields that are good, of each kind.
-const GOOD: [&str; 9] = [
+pub const GOOD: [&str; 9] = [
     "connect 01020304 1",
     "get_status 29f1",
     "immediate_setup 3 3359a2 29f1 01020304",
@@ -17,7 +17,7 @@ const GOOD: [&str; 9] = [
 ];
 
 /// Fields that are refused with 4, of each kind that can be refused so.
-const BAD: [&str; 8] = [
+pub const BAD: [&str; 8] = [
     "connect 01020304 2",
     "get_status 290102030405060708",
     "immediate_setup 8 3359a2 29f1 01020304",
@@ -51,7 +51,7 @@ pub fn all(lines: &mut Vec<String>) {
 }
 
 /// Each half octet from 0 to beyond a half octet, and references of all sorts.
-fn numbers(lines: &mut Vec<String>) {
+pub fn numbers(lines: &mut Vec<String>) {
     for number in (0..=18).chain([31, 32, 127, 128, 254, 255]) {
         lines.push(format!("write 255 1 0 connect 00000000 {number}"));
         lines.push(format!("write 255 1 0 set_parameter {number}"));
@@ -74,7 +74,7 @@ fn numbers(lines: &mut Vec<String>) {
 }
 
 /// Classmarks, identities and causes of too few, enough and too many octets.
-fn lengths(lines: &mut Vec<String>) {
+pub fn lengths(lines: &mut Vec<String>) {
     for classmark in 0..=5 {
         for identity in [0, 1, 8, 9] {
             let classmark = hexadecimal(&vec![0x33; classmark]);

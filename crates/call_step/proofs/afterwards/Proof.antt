@@ -21,18 +21,18 @@ afterwards-spec =
     (λ c κs. search needs)
     (λ c κs. search needs)
     (λ c.
-    let referred = c .before in
+    let remembers = c .before in
+    let referred = remembers .before in
     let stored = referred .before in
-    let set = stored .before in
-    let stopped = set .before in
-    let entered = stopped .before in
-    let test = entered .before .before .before .before in
+    let timed = stored .before in
+    let named = timed .before in
+    let test = named .before .before .before .before in
     rw (
-      c .remembered-after .ensures,
+      c .talk-after .ensures,
+      remembers .remembered-after .ensures,
       referred .reference-after .ensures,
       stored .value-after .ensures,
-      set .with-timer2 .ensures,
-      stopped .with-timer .ensures,
-      entered .parameters-after .ensures,
+      timed .timers-after .ensures,
+      named .entered .ensures,
       ne-eqb _ _ (λ e. test .if1 .left (test .before .state-number .ensures ∙ e)),
     )))

@@ -10,4 +10,5 @@ ignore-spec =
     tie.close
     (tie.spec
     (λ c κs. search needs)
-    (λ c. rw (c .reason-number .ensures)))
+    (λ c κs. search needs)
+    (λ c. rw (c .unsent .ensures, c .before .reason-number .ensures)))

@@ -13,6 +13,6 @@ parameters-after-spec =
     (tie.spec
     (λ c κs. search needs)
     (λ c κs. search needs)
-    (λ c. rw (eq-eqb _ _ (sym (c .before .before .before .state-number .ensures) ∙ c .before .if1 .taken ∙ c .before .before .state-number2 .ensures)))
+    (λ c. rw (eq-eqb _ _ (sym (c .before .before .state-number .ensures) ∙ c .if1 .taken ∙ c .before .state-number2 .ensures)))
     (λ c κs. search needs)
     (λ c. rw (c .entering .ensures, ne-eqb _ _ (λ e. c .before .if1 .left (c .before .before .before .state-number .ensures ∙ e ∙ sym (c .before .before .state-number2 .ensures))))))

@@ -1,5 +1,5 @@
 -- `refuse` meets its contract: it is the definition's record.
-use mathlib.Core.Path.{refl}
+use borrow.Author.Needs.{needs}
 use Rattle.call.specs.Step.{noStep}
 use Rattle.call_step.proofs.refuse.Statement.{statement}
 use Rattle.call_step.proofs.refuse.Tie as tie
@@ -9,4 +9,5 @@ unfolding noStep
 refuse-spec =
     tie.close
     (tie.spec
-    (λ c. refl))
+    (λ c κs. search needs)
+    (λ c. rw (c .unsent .ensures)))

@@ -9,6 +9,7 @@ unfolding reportedWith
 report-spec =
     tie.close
     (tie.spec
-    (λ c. rw (c .if1 .taken))
+    (λ c κs. search needs)
+    (λ c. rw (c .unsent .ensures, c .before .if1 .taken))
     (λ c κs. search needs)
     (λ c. rw (c .ignore .ensures, c .before .if1 .left)))

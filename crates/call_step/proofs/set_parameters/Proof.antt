@@ -12,6 +12,13 @@ set-parameters-spec =
     (tie.spec
     (λ c κs. search needs)
     (λ c κs. search needs)
-    (λ c. rw (← c .before .before .parameters-of .ensures, sym (c .before .is-consistent .ensures) ∙ c .if1 .taken))
+    (λ c κs. search needs)
+    (λ c κs. search needs)
+    (λ c. rw (
+      c .took .ensures,
+      c .before .with-parameters .ensures,
+      ← c .before .before .before .before .parameters-of .ensures,
+      sym (c .before .before .before .is-consistent .ensures) ∙ c .before .before .if1 .taken,
+    ))
     (λ c κs. search needs)
     (λ c. rw (c .report .ensures, ← c .before .before .before .parameters-of .ensures, sym (c .before .before .is-consistent .ensures) ∙ c .before .if1 .left)))

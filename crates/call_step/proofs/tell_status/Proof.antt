@@ -9,6 +9,7 @@ unfolding statusTold
 tell-status-spec =
     tie.close
     (tie.spec
-    (λ c. rw (c .if1 .taken))
+    (λ c κs. search needs)
+    (λ c. rw (c .took .ensures, c .before .if1 .taken))
     (λ c κs. search needs)
     (λ c. rw (c .ignore .ensures, c .before .if1 .left)))

@@ -1,5 +1,6 @@
--- `entering` meets its contract: it is the state's row.
+-- `entering` meets its contract: it is the state's row, as far as the state sets it.
 use borrow.Author.Needs.{needs}
+use mathlib.Core.Path.{sym}
 use Rattle.context.specs.Context.{entering}
 use Rattle.context.proofs.entering.Statement.{statement}
 use Rattle.context.proofs.entering.Tie as tie
@@ -10,4 +11,6 @@ entering-spec =
     tie.close
     (tie.spec
     (λ c κs. search needs)
-    (λ c. c .start-row .ensures))
+    (λ c κs. search needs)
+    (λ c κs. search needs)
+    (λ c. rw (sym (c .before .before .start-row .ensures), sym (c .before .set-row .ensures)) (c .set-or-kept .ensures)))

@@ -12,6 +12,7 @@ is-kept-spec =
     (λ c. search needs)
     (λ c κs. search needs)
     (λ c. search needs)
+    (λ c κs. search needs)
     (λ c. search needs)
     (λ c. search needs)
     (λ c. search needs)
@@ -21,5 +22,5 @@ is-kept-spec =
     (λ c. search needs)
     (λ c. search needs)
     (λ c.
-    let noted = c .before .before .before .before .before .before .before .before .before in
-    rw (noted .is-remembered .ensures)))
+    let talks = c .before .before .before .before .before .before .before .before in
+    rw (talks .is-talk .ensures, talks .before .before .is-remembered .ensures)))

@@ -12,4 +12,8 @@ remembered-at-spec =
     (tie.spec
     (λ c. rw (c .match .keys1))
     (λ c. rw (c .match .keys2))
+    (λ c. rw (c .match .keys3))
+    (λ c. rw (c .match .keys4))
+    (λ c. rw (c .match .keys5))
+    (λ c. rw (c .match .keys6))
     (λ c. no-row (c .before .args .number) Nothing remembereds (c .match .rest)))

@@ -7,9 +7,10 @@ use Rattle.context_octets.proofs.with_state.Tie as tie
 returns : tie.Need-returns
 unfolding withState
 returns c =
-    let noted = c .before in
+    let talks = c .before in
+    let noted = talks .before .before in
     let timers = noted .before .before .before .before .before .before in
-    rw (← noted .remembered-at .ensures, ← timers .before .before .parameters-at .ensures, ← timers .timers-at .ensures)
+    rw (← talks .talk-at .ensures, ← noted .remembered-at .ensures, ← timers .before .before .parameters-at .ensures, ← timers .timers-at .ensures)
 
 pub with-state-spec : {M : Type 1} → statement M
 unfolding withState
@@ -24,6 +25,8 @@ with-state-spec =
     (λ c. search needs)
     (λ c. search needs)
     (λ c. search needs)
+    (λ c. search needs)
+    (λ c κs. search needs)
     (λ c. search needs)
     (λ c κs. search needs)
     (λ c. search needs)

@@ -16,9 +16,11 @@ write-spec =
     (λ c κs. search needs)
     (λ c κs. search needs)
     (λ c κs. search needs)
+    (λ c κs. search needs)
     (λ c.
-    let noted = c .before in
+    let talks = c .before in
+    let noted = talks .before .before in
     let timers = noted .before in
     let parameters = timers .before in
     let state = parameters .before in
-    rw (noted .remembered-number .ensures, timers .timers-number .ensures, parameters .four-number .ensures, state .state-number .ensures)))
+    rw (talks .talk-number .ensures, noted .remembered-number .ensures, timers .timers-number .ensures, parameters .four-number .ensures, state .state-number .ensures)))

@@ -11,4 +11,4 @@ decide-spec =
     (λ c κs. search needs)
     (λ c. rw (c .before .if1 .taken) (c .decide .ensures))
     (λ c κs. search needs)
-    (λ c. no-message _ _ _ _ _ (c .before .if1 .left) (c .happened .ensures)))
+    (λ c. no-message _ _ _ _ _ (c .before .if1 .left) (c .occurred .ensures)))

@@ -1,6 +1,7 @@
 -- `happened` meets its contract, state by state.
 use borrow.Author.Needs.{needs}
-use Rattle.transitions.proofs.InState.{happened-in-state}
+use mathlib.Core.Path.{refl}
+use Rattle.transitions.proofs.InState.{happened-in-state, rowless}
 use Rattle.event_rows.proofs.happened.Statement.{statement}
 use Rattle.event_rows.proofs.happened.Tie as tie
 
@@ -24,6 +25,12 @@ happened-spec =
     (λ c κs. search needs)
     (λ c. search needs)
     (λ c κs. search needs)
+    (λ c. search needs)
+    (λ c. search needs)
+    (λ c. search needs)
+    (λ c. search needs)
+    (λ c. search needs)
+    (λ c. search needs)
     (λ c. happened-in-state _ _ _ _ _ (c .before .enum-told .given .1) (c .in-u0 .ensures))
     (λ c. happened-in-state _ _ _ _ _ (c .before .enum-told2 .given .1) (c .in-u0p .ensures))
     (λ c. happened-in-state _ _ _ _ _ (c .before .enum-told3 .given .1) (c .in-u1 .ensures))
@@ -31,4 +38,10 @@ happened-spec =
     (λ c. happened-in-state _ _ _ _ _ (c .before .enum-told5 .given .1) (c .in-u3 .ensures))
     (λ c. happened-in-state _ _ _ _ _ (c .before .enum-told6 .given .1) (c .in-u4 .ensures))
     (λ c. happened-in-state _ _ _ _ _ (c .before .enum-told7 .given .1) (c .in-u5 .ensures))
-    (λ c. happened-in-state _ _ _ _ _ (c .before .enum-told8 .given .1) (c .in-u6 .ensures)))
+    (λ c. happened-in-state _ _ _ _ _ (c .before .enum-told8 .given .1) (c .in-u6 .ensures))
+    (λ c. rowless _ _ _ _ (c .enum-told9 .given .1) refl)
+    (λ c. rowless _ _ _ _ (c .enum-told10 .given .1) refl)
+    (λ c. rowless _ _ _ _ (c .enum-told11 .given .1) refl)
+    (λ c. rowless _ _ _ _ (c .enum-told12 .given .1) refl)
+    (λ c. rowless _ _ _ _ (c .enum-told13 .given .1) refl)
+    (λ c. rowless _ _ _ _ (c .enum-told14 .given .1) refl))

@@ -3,12 +3,13 @@ use borrow.Author.Needs.{needs}
 use Rattle.codes.specs.declared.state.State.the-variants.{U6}
 use Rattle.octets.proofs.Rows.{no-row}
 use Rattle.transitions.specs.declared.Decision.the-variants.{NoStep}
-use Rattle.transitions.specs.Table.{stepTable, eventsIn, happenedIn}
+use Rattle.codes.specs.declared.protocol.Protocol.the-variants.{Broadcast}
+use Rattle.transitions.specs.Table.{rowsOf, eventsIn, happenedIn}
 use Rattle.event_rows.proofs.in_u6.Statement.{statement}
 use Rattle.event_rows.proofs.in_u6.Tie as tie
 
 pub in-u6-spec : {M : Type 1} → statement M
-unfolding stepTable happenedIn
+unfolding happenedIn
 in-u6-spec =
     tie.close
     (tie.spec
@@ -20,4 +21,4 @@ in-u6-spec =
     (λ c. rw (c .match .keys4))
     (λ c. rw (c .match .keys5))
     (λ c. rw (c .match .keys6))
-    (λ c. no-row (c .before .before .args .number) NoStep (eventsIn U6 (c .before .before .args .context) (stepTable (c .before .before .args .table))) (c .match .rest)))
+    (λ c. no-row (c .before .before .args .number) NoStep (eventsIn U6 (c .before .before .args .context) (rowsOf Broadcast (c .before .before .args .table))) (c .match .rest)))

@@ -10,4 +10,6 @@ is-cleared-spec =
     tie.close
     (tie.spec
     (λ c κs. search needs)
-    (λ c. rw (c .before .is-something .ensures)))
+    (λ c κs. search needs)
+    (λ c κs. search needs)
+    (λ c. rw (c .before .is-silent .ensures, c .before .before .before .is-something .ensures, c .before .before .before .before .before .before .before .before .none-run .ensures)))

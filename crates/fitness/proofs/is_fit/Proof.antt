@@ -8,28 +8,28 @@ use Rattle.codes.specs.declared.state.State.the-variants.{U0}
 use Rattle.context.specs.declared.Context.{Context}
 use Rattle.context.specs.States.{same}
 use Rattle.version.specs.declared.Table.{Table}
-use Rattle.fitness.specs.Tables.{consistent}
-use Rattle.fitness.proofs.Consistent.{by-two}
+use Rattle.fitness.specs.Tables.{stateFits}
+use Rattle.fitness.proofs.Consistent.{state-by-two}
 use Rattle.fitness.proofs.Tested.{inconsistent, value-over, in-u0, elsewhere}
 use Rattle.fitness.proofs.is_fit.Statement.{statement}
 use Rattle.fitness.proofs.is_fit.Tie as tie
 
 -- The context that is asked about, and the table, where the parameters and where the value have been tested.
-abbrev asked : tie.After-fits-state → Context
+abbrev asked : tie.After-state-fits → Context
 asked c = c .before .args .context
 
-abbrev asked-table : tie.After-fits-state → Table
+abbrev asked-table : tie.After-state-fits → Table
 asked-table c = c .before .args .table
 
 abbrev asked-further : tie.After-struct-known → Context
 asked-further c = asked (c .before .before)
 
 -- What each test told.
-wrong-parameters : (c : tie.Then1) → consistent (asked-table (c .before)) (asked (c .before) .state) (asked (c .before) .parameters) ≡ false
-wrong-parameters c = by-two _ (asked (c .before) .state) (asked (c .before) .parameters) ∙ (sym (c .before .fits-state .ensures) ∙ not-true _ (c .if1 .taken))
+wrong-parameters : (c : tie.Then1) → stateFits (asked-table (c .before)) (asked (c .before) .state) (asked (c .before) .parameters) ≡ false
+wrong-parameters c = state-by-two _ (asked (c .before) .state) (asked (c .before) .parameters) ∙ (sym (c .before .state-fits .ensures) ∙ not-true _ (c .if1 .taken))
 
-right-parameters : (c : tie.Else1) → consistent (asked-table (c .before)) (asked (c .before) .state) (asked (c .before) .parameters) ≡ true
-right-parameters c = by-two _ (asked (c .before) .state) (asked (c .before) .parameters) ∙ (sym (c .before .fits-state .ensures) ∙ not-false _ (c .if1 .left))
+right-parameters : (c : tie.Else1) → stateFits (asked-table (c .before)) (asked (c .before) .state) (asked (c .before) .parameters) ≡ true
+right-parameters c = state-by-two _ (asked (c .before) .state) (asked (c .before) .parameters) ∙ (sym (c .before .state-fits .ensures) ∙ not-false _ (c .if1 .left))
 
 small-value : (c : tie.Else2) → leb (asked-further (c .before) .value) 6 ≡ true
 small-value c = le-leb _ _ (c .if2 .left)

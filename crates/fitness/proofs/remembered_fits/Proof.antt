@@ -13,5 +13,12 @@ remembered-fits-spec =
     (tie.spec
     (λ c κs. search needs)
     (λ c κs. search needs)
-    (λ c. rw (sym (c .before .remembers .ensures) ∙ c .if1 .taken) (c .before .before .is-something .ensures))
-    (λ c. rw (sym (c .before .remembers .ensures) ∙ c .if1 .left, c .before .before .is-something .ensures)))
+    (λ c κs. search needs)
+    (λ c κs. search needs)
+    (λ c. rw (
+      sym (c .before .remembers .ensures) ∙ c .if1 .taken,
+      c .before .before .before .before .is-something .ensures,
+      c .before .before .has-state .ensures,
+      c .before .before .before .returning .ensures,
+    ))
+    (λ c. rw (sym (c .before .remembers .ensures) ∙ c .if1 .left, c .before .before .before .before .is-something .ensures)))

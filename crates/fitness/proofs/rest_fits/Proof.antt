@@ -9,4 +9,5 @@ rest-fits-spec =
     (tie.spec
     (λ c κs. search needs)
     (λ c κs. search needs)
-    (λ c. rw (c .remembered-fits .ensures, c .before .timers-fit .ensures)))
+    (λ c κs. search needs)
+    (λ c. rw (c .talk-fits .ensures, c .before .remembered-fits .ensures, c .before .before .timers-fit .ensures)))

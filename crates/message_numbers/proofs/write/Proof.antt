@@ -16,5 +16,5 @@ write-spec =
     (λ c. search needs)
     (λ c κs. search needs)
     (λ c. search needs)
-    (λ c. means-message _ _ _ _ _ _ _ (sym (c .before .before .before .before .before .before .before .before .message-of .ensures) ∙ c .before .before .before .before .before .before .message .given .1) (c .wrote-numbers .ensures) (c .before .before .before .write .ensures))
-    (λ c. means-nothing _ _ _ _ (sym (c .before .before .before .message-of .ensures) ∙ c .before .enum-told .given .1) (c .not-written .ensures)))
+    (λ c. means-message _ _ _ _ _ _ _ _ (sym (c .before .before .before .before .before .before .before .before .message-of .ensures) ∙ c .before .before .before .before .before .before .message .given .1) (c .wrote-numbers .ensures) (c .before .before .before .write .ensures))
+    (λ c. means-nothing _ _ _ _ _ (sym (c .before .before .before .message-of .ensures) ∙ c .before .enum-told .given .1) (c .not-written .ensures)))

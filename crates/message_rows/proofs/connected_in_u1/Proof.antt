@@ -1,10 +1,10 @@
 -- `connected_in_u1` meets its contract, with T_MM-est and without.
-use Rattle.transitions.specs.Table.{stepTable, heardIn}
+use Rattle.transitions.specs.Table.{heardIn}
 use Rattle.message_rows.proofs.connected_in_u1.Statement.{statement}
 use Rattle.message_rows.proofs.connected_in_u1.Tie as tie
 
 pub connected-in-u1-spec : {M : Type 1} → statement M
-unfolding stepTable heardIn
+unfolding heardIn
 connected-in-u1-spec =
     tie.close
     (tie.spec

@@ -1,36 +1,18 @@
--- `decide` meets its contract, state by state.
+-- `decide` meets its contract, protocol by protocol.
 use borrow.Author.Needs.{needs}
-use mathlib.Core.Path.{refl}
-use Rattle.transitions.specs.Table.{stepTable, heardIn}
-use Rattle.transitions.proofs.InState.{heard-in-state}
+use mathlib.Core.Path.{sym, _∙_}
+use Rattle.transitions.proofs.InState.{heard-broadcast, heard-group}
 use Rattle.message_rows.proofs.decide.Statement.{statement}
 use Rattle.message_rows.proofs.decide.Tie as tie
 
 pub decide-spec : {M : Type 1} → statement M
-unfolding stepTable heardIn
 decide-spec =
     tie.close
     (tie.spec
-    (λ c. search needs)
-    (λ c. search needs)
     (λ c κs. search needs)
     (λ c. search needs)
     (λ c κs. search needs)
     (λ c. search needs)
     (λ c κs. search needs)
-    (λ c. search needs)
-    (λ c κs. search needs)
-    (λ c. search needs)
-    (λ c κs. search needs)
-    (λ c. search needs)
-    (λ c κs. search needs)
-    (λ c. search needs)
-    (λ c κs. search needs)
-    (λ c. heard-in-state _ _ _ _ _ (c .enum-told .given .1) refl)
-    (λ c. heard-in-state _ _ _ _ _ (c .before .enum-told2 .given .1) (c .heard-in-u0p .ensures))
-    (λ c. heard-in-state _ _ _ _ _ (c .before .enum-told3 .given .1) (c .heard-in-u1 .ensures))
-    (λ c. heard-in-state _ _ _ _ _ (c .before .enum-told4 .given .1) (c .heard-elsewhere .ensures))
-    (λ c. heard-in-state _ _ _ _ _ (c .before .enum-told5 .given .1) (c .heard-elsewhere2 .ensures))
-    (λ c. heard-in-state _ _ _ _ _ (c .before .enum-told6 .given .1) (c .heard-elsewhere3 .ensures))
-    (λ c. heard-in-state _ _ _ _ _ (c .before .enum-told7 .given .1) (c .heard-in-u5 .ensures))
-    (λ c. heard-in-state _ _ _ _ _ (c .before .enum-told8 .given .1) (c .heard-elsewhere4 .ensures)))
+    (λ c. heard-broadcast _ _ _ _ _ (sym (c .before .before .before .protocol .ensures) ∙ c .before .enum-told .given .1) (c .heard .ensures))
+    (λ c. heard-group _ _ _ _ _ (sym (c .before .before .before .protocol .ensures) ∙ c .before .enum-told2 .given .1) (c .heard2 .ensures)))

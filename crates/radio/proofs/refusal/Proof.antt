@@ -14,4 +14,4 @@ refusal-spec =
     (λ c κs. search needs)
     (λ c κs. search needs)
     (λ c. rw (← c .before .before .before .fitness-refusal .ensures, ne-eqb _ _ (c .if1 .taken)))
-    (λ c. rw (← c .before .before .before .fitness-refusal .ensures, c .if1 .left, ← c .before .before .greatest-event .ensures) (c .before .argument-refusal .ensures)))
+    (λ c. rw (← c .before .before .before .fitness-refusal .ensures, c .if1 .left, ← c .before .before .has-event .ensures) (c .before .argument-refusal .ensures)))

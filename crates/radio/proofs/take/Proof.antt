@@ -7,6 +7,9 @@ use Rattle.radio.proofs.take.Tie as tie
 react-requires : tie.Need-react-requires
 react-requires c κs = search needs
 
+protocol-requires : tie.Need-protocol-requires
+protocol-requires c κs = search needs
+
 put-requires : tie.Need-put-requires
 put-requires c κs = search needs
 
@@ -16,9 +19,10 @@ same-length c = search needs
 returns : tie.Need-returns
 returns c =
     let wrote = c .before .before in
-    let reacts = wrote .before .before .before in
+    let told = wrote .before .before in
+    let reacts = told .before .before .before in
     let start = reacts .before .before .before .before in
-    takes (start .args .table) (start .args .own) (start .args .identity .now) (start .args .reply .now) (start .args .context) (start .args .happened) (start .args .octets .now) _ (reacts .react .ensures) _ _ (wrote .put .ensures)
+    takes (start .args .table) (start .args .own) (start .args .identity .now) (start .args .reply .now) (start .args .context) (start .args .happened) (start .args .octets .now) _ (reacts .react .ensures) _ (told .protocol .ensures) _ _ (wrote .put .ensures)
 
 pub take-spec : {M : Type 1} → statement M
-take-spec = tie.close (tie.spec react-requires put-requires same-length returns)
+take-spec = tie.close (tie.spec react-requires protocol-requires put-requires same-length returns)

@@ -10,6 +10,9 @@ ask-requires c κs = search needs
 is-other-requires : tie.Need-is-other-requires
 is-other-requires c κs = rw (c .ask .ensures) (c .before .before .before .pre)
 
+must-name-us-requires : tie.Need-must-name-us-requires
+must-name-us-requires c κs = search needs
+
 returns : tie.Need-returns
 unfolding understoodDue
 returns c = rw (← c .before .before .ask .ensures, ← c .before .is-other .ensures, c .if1 .taken)
@@ -17,14 +20,16 @@ returns c = rw (← c .before .before .ask .ensures, ← c .before .is-other .en
 returns-2 : tie.Need-returns-2
 unfolding understoodDue
 returns-2 c =
-    let asked = c .before .before in
-    rw (← asked .before .ask .ensures, ← asked .is-other .ensures, c .before .if1 .left, c .if2 .taken)
+    let other = c .before .before .before in
+    let asked = other .before in
+    rw (← asked .before .ask .ensures, ← asked .is-other .ensures, other .if1 .left, ← c .before .before .must-name-us .ensures, c .if2 .taken)
 
 returns-3 : tie.Need-returns-3
 unfolding understoodDue
 returns-3 c =
-    let asked = c .before .before in
-    rw (← asked .before .ask .ensures, ← asked .is-other .ensures, c .before .if1 .left, c .if2 .left)
+    let other = c .before .before .before in
+    let asked = other .before in
+    rw (← asked .before .ask .ensures, ← asked .is-other .ensures, other .if1 .left, ← c .before .before .must-name-us .ensures, c .if2 .left)
 
 pub understand-spec : {M : Type 1} → statement M
-understand-spec = tie.close (tie.spec ask-requires is-other-requires returns returns-2 returns-3)
+understand-spec = tie.close (tie.spec ask-requires is-other-requires returns must-name-us-requires returns-2 returns-3)

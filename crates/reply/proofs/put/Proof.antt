@@ -1,46 +1,19 @@
--- `put` meets its contract, message by message.
+-- `put` meets its contract: what was pending stands behind what the row sends.
 use borrow.Author.Needs.{needs}
-use mathlib.Core.Path.{refl}
-use native.Mathlib.Omega.{arith}
-use Rattle.reply.specs.Reply.{putOf}
-use Rattle.reply.proofs.Putting.{setup-from, request-from, error-from, put-case}
+use Rattle.reply.proofs.Pending.{room-left, some-pending, none-pending}
 use Rattle.reply.proofs.put.Statement.{statement}
 use Rattle.reply.proofs.put.Tie as tie
 
 pub put-spec : {M : Type 1} → statement M
-unfolding putOf
 put-spec =
     tie.close
     (tie.spec
-    (λ c. search needs)
-    (λ c. search needs)
     (λ c κs. search needs)
+    (λ c κs. let a = c .before .before .before .before .before .before .before .before .before .before .args in
+    room-left (a .protocol) (a .own) (a .identity .now) (a .octets .now) (a .reply .now) (a .context) (a .sends) (a .sent) _ _ (c .before .before .before .before .before .put-own .ensures))
     (λ c. search needs)
-    (λ c κs. search needs)
+    (λ c. let a = c .before .before .before .before .before .before .before .before .before .before .before .before .before .args in
+    some-pending (a .protocol) (a .own) (a .identity .now) (a .octets .now) (a .reply .now) (a .context) (a .sends) (a .sent) _ _ (c .before .before .before .before .before .before .before .before .put-own .ensures) _ _ (c .before .before .put-pending .ensures))
     (λ c. search needs)
-    (λ c κs. search needs)
-    (λ c. search needs)
-    (λ c κs. search needs)
-    (λ c. search needs)
-    (λ c κs. search needs)
-    (λ c κs. search needs)
-    (λ c. let a = c .before .before .before .before .before .before .args in
-    put-case (a .reply .now) (a .identity .now) (a .octets .now) (a .own) (a .context) (a .sends) _ _ _ _ (c .enum-told .given .1) refl (refl, refl))
-    (λ c. search needs)
-    (λ c. let a = c .before .before .before .before .before .before .before .before .before .before .args in
-    put-case (a .reply .now) (a .identity .now) (a .octets .now) (a .own) (a .context) (a .sends) _ _ _ _ (c .before .before .before .before .enum-told2 .given .1) refl (c .before .before .put-immediate .ensures))
-    (λ c. search needs)
-    (λ c. let a = c .before .before .before .before .before .before .before .before .before .before .args in
-    put-case (a .reply .now) (a .identity .now) (a .octets .now) (a .own) (a .context) (a .sends) _ _ _ _ (c .before .before .before .before .enum-told3 .given .1)
-    (setup-from _ (a .identity .now) (a .context) _) (c .before .before .put-message .ensures))
-    (λ c. search needs)
-    (λ c. let a = c .before .before .before .before .before .before .before .before .before .before .args in
-    put-case (a .reply .now) (a .identity .now) (a .octets .now) (a .own) (a .context) (a .sends) _ _ _ _ (c .before .before .before .before .enum-told4 .given .1)
-    (request-from _ (a .identity .now) (a .context) _) (c .before .before .put-message2 .ensures))
-    (λ c. search needs)
-    (λ c. let a = c .before .before .before .before .before .before .before .before .before .before .before .args in
-    put-case (a .reply .now) (a .identity .now) (a .octets .now) (a .own) (a .context) (a .sends) _ _ _ _ (c .before .before .before .before .before .sends .given .1) refl (c .before .before .put-status .ensures))
-    (λ c. search needs)
-    (λ c. let a = c .before .before .before .before .before .before .before .before .before .before .before .before .args in
-    put-case (a .reply .now) (a .identity .now) (a .octets .now) (a .own) (a .context) (a .sends) _ _ _ _ (c .before .before .before .before .before .before .sends2 .given .1)
-    (error-from _ (a .octets .now) (a .context) _ _ (c .before .before .before .before .copy-count .ensures .0)) (c .before .before .put-status2 .ensures)))
+    (λ c. let a = c .before .before .before .before .before .before .before .before .before .args in
+    none-pending (a .protocol) (a .own) (a .identity .now) (a .octets .now) (a .reply .now) (a .context) (a .sends) (a .sent) (c .if1 .left) _ _ (c .before .before .before .before .put-own .ensures)))

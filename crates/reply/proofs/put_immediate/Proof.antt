@@ -10,4 +10,4 @@ put-immediate-spec =
     (tie.spec
     (λ c κs. search needs)
     (λ c. search needs)
-    (λ c. put-as _ _ _ _ _ (immediate-from _ (c .before .before .before .before .before .before .before .before .args .identity .now) (c .before .before .before .before .before .before .before .before .args .context) _ _ _) (c .before .before .put-message .ensures)))
+    (λ c. put-as _ _ _ _ _ (immediate-from (c .before .before .before .before .before .before .before .before .args .protocol) _ (c .before .before .before .before .before .before .before .before .args .identity .now) (c .before .before .before .before .before .before .before .before .args .context) _ _ _) (c .before .before .put-message .ensures)))

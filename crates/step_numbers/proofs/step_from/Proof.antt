@@ -10,7 +10,7 @@ returns c =
     let own = c .before .before .before .before .before .before .before .before .before .before .before .own-of .ensures in
     let run = c .before .before .before .before .before .before .before .before .before .before .identity-run .ensures .0 in
     let come = c .before .before .before .before .before .before .before .stepped .ensures in
-    call-from (start .settings .now) (start .reply .now) (start .from) (start .event) (start .message .now) _ _ own run _ _ (come .0) (come .1) _
+    call-from (start .table) (start .settings .now) (start .reply .now) (start .from) (start .event) (start .message .now) _ _ own run _ _ (come .0) (come .1) _
     (c .before .write .ensures) _ (c .step-shown .ensures)
 
 pub step-from-spec : {M : Type 1} → statement M

@@ -9,7 +9,7 @@ use Rattle.step_numbers.proofs.take_step.Tie as tie
 returns : tie.Need-returns
 returns c =
     let start = c .before .before .before .before .before .before .before .before .before .before .before .before .args in
-    call-is (start .context .now) (start .settings .now) (start .reply .now) (start .event) (start .message .now) _
+    call-is (start .table) (start .context .now) (start .settings .now) (start .reply .now) (start .event) (start .message .now) _
     (sym (c .before .before .before .before .before .before .before .before .read .ensures) ∙ c .before .before .before .before .before .before .from .given .1) _ _ _
     (c .before .before .step-from .ensures)
 
@@ -17,7 +17,7 @@ returns c =
 returns-2 : tie.Need-returns-2
 returns-2 c =
     let start = c .before .before .before .before .before .before .args in
-    call-none (start .context .now) (start .settings .now) (start .reply .now) (start .event) (start .message .now)
+    call-none (start .table) (start .context .now) (start .settings .now) (start .reply .now) (start .event) (start .message .now)
     (sym (c .before .before .read .ensures) ∙ c .enum-told .given .1)
 
 pub take-step-spec : {M : Type 1} → statement M

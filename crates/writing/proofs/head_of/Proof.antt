@@ -1,10 +1,7 @@
 -- `head_of` meets its contract, for either flag.
 use borrow.Author.Needs.{needs}
 use native.Mathlib.Omega.{arith}
-use Prim.Native.Nat.{_≤_}
-use mathlib.Core.Path.{_≡_}
-use Rattle.message.specs.Tables.{headOf}
-use Rattle.writing.proofs.Heads.{head-set, head-clear}
+use Rattle.writing.proofs.Heads.{low-small, head-set, head-clear}
 use Rattle.writing.proofs.head_of.Statement.{statement}
 use Rattle.writing.proofs.head_of.Tie as tie
 
@@ -12,9 +9,11 @@ pub head-of-spec : {M : Type 1} → statement M
 head-of-spec =
     tie.close
     (tie.spec
+    (λ c κs. search needs)
     (λ c. search needs)
     (λ c. search needs)
-    (λ c. head-set _ _ (c .if1 .taken))
+    (λ c. omega (arith, low-small _ _ (c .before .discriminator .ensures)))
+    (λ c. head-set _ _ (c .before .discriminator .ensures) _ _ (c .if1 .taken))
     (λ c. search needs)
-    (λ c. search needs)
-    (λ c. head-clear _ _ (c .if1 .left)))
+    (λ c. omega (arith, low-small _ _ (c .before .discriminator .ensures)))
+    (λ c. head-clear _ _ (c .before .discriminator .ensures) _ _ (c .if1 .left)))

@@ -12,7 +12,7 @@ put-spec =
     (tie.spec
     (λ c.
     let a = c .before .before .before .args in
-    let over = value-over (a .source .now) (a .flag) (a .value) (a .message) (c .if1 .taken) in
+    let over = value-over (a .protocol) (a .source .now) (a .flag) (a .value) (a .message) (c .if1 .taken) in
     (simp over, simp over))
     (λ c κs. search needs)
     (λ c κs. search needs)
@@ -20,4 +20,4 @@ put-spec =
     (λ c.
     let first = c .before .before .before .before .before in
     let a = first .before .before .before .args in
-    puts-whole _ (a .source .now) _ (a .flag) (a .value) (a .message) _ _ (first .if1 .left) (c .before .before .before .before .head-of .ensures) (c .before .before .write-body .ensures)))
+    puts-whole (a .protocol) _ (a .source .now) _ (a .flag) (a .value) (a .message) _ _ (first .if1 .left) (c .before .before .before .before .head-of .ensures) (c .before .before .write-body .ensures)))

@@ -17,4 +17,4 @@ write-spec =
     (λ c.
     let first = c .before .before .before .before in
     let a = first .before .before .before .args in
-    written-put (a .buffer .now) (a .source .now) (a .flag) (a .value) (a .message) (first .if1 .left) _ _ (c .before .before .put .ensures)))
+    written-put (a .protocol) (a .buffer .now) (a .source .now) (a .flag) (a .value) (a .message) (first .if1 .left) _ _ (c .before .before .put .ensures)))

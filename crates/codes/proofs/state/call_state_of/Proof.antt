@@ -1,7 +1,6 @@
--- `call_state_of` meets its contract: each arm is a row, and the rest has no row.
-use Rattle.octets.proofs.Rows.{no-row}
-use Rattle.codes.specs.declared.state.CallState.the-variants.{Reserved}
-use Rattle.codes.specs.CallStates.{callStateOf, callStates}
+-- `call_state_of` meets its contract, protocol by protocol.
+use borrow.Author.Needs.{needs}
+use Rattle.codes.specs.CallStates.{callStateOf}
 use Rattle.codes.proofs.state.call_state_of.Statement.{statement}
 use Rattle.codes.proofs.state.call_state_of.Tie as tie
 
@@ -10,12 +9,9 @@ unfolding callStateOf
 call-state-of-spec =
     tie.close
     (tie.spec
-    (λ c. rw (c .match .keys1))
-    (λ c. rw (c .match .keys2))
-    (λ c. rw (c .match .keys3))
-    (λ c. rw (c .match .keys4))
-    (λ c. rw (c .match .keys5))
-    (λ c. rw (c .match .keys6))
-    (λ c. rw (c .match .keys7))
-    (λ c. rw (c .match .keys8))
-    (λ c. no-row (c .before .args .code) Reserved callStates (c .match .rest)))
+    (λ c. search needs)
+    (λ c κs. search needs)
+    (λ c. search needs)
+    (λ c κs. search needs)
+    (λ c. rw (c .before .enum-told .given .1) (c .broadcast-state .ensures))
+    (λ c. rw (c .before .enum-told2 .given .1) (c .group-state .ensures)))

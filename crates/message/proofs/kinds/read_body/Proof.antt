@@ -31,4 +31,4 @@ read-body-spec =
     (λ c. rw (c .before .match .keys8) (c .read-get-status .ensures))
     (λ c. rw (c .before .match .keys9) (c .read-set-parameter .ensures))
     (λ c. rw (c .match .keys10))
-    (λ c. no-row (c .before .before .args .kind) (Wrong UnknownType) (kinds (c .before .before .args .octets .now)) (c .match .rest .0)))
+    (λ c. no-row (c .before .before .args .kind) (Wrong UnknownType) (kinds (c .before .before .args .protocol) (c .before .before .args .octets .now)) (c .match .rest .0)))

@@ -12,7 +12,7 @@ use Rattle.writing.proofs.kinds.write_immediate_setup.Statement.{statem
 use Rattle.writing.proofs.kinds.write_immediate_setup.Tie as tie
 
 -- Past the tests of its fields the identity fits.
-run-is : (c : tie.Else2) → let a = c .before .before .before .before .before .args in runFits (a .source .now) (a .identity) 8 ≡ true
+run-is : (c : tie.Else2) → let a = c .before .before .before .before .before .args in runFits (a .source .now) (a .identity) 1 8 ≡ true
 run-is c = sym (c .before .identity-fits .ensures) ∙ not-false _ (c .if2 .left)
 
 -- The tests, from where the copy is done.
@@ -30,7 +30,7 @@ write-immediate-setup-spec =
     (λ c. refused _ _ _ (immediate-key _ _ (c .if1 .taken)))
     (λ c κs. search needs)
     (λ c. refused _ _ _ (immediate-run (c .before .before .before .before .before .args .key) _ (sym (c .before .identity-fits .ensures) ∙ not-true _ (c .if2 .taken))))
-    (λ c. omega (arith, good _ _ _ (run-is c)))
+    (λ c. omega (arith, good _ _ _ _ (run-is c)))
     (λ c. no-room _ _ _ _ (immediate-both _ _ (c .before .before .before .if1 .left) (run-is (c .before))) (immediate-count _ _ _ _ _ _ (run-is (c .before))) (c .if3 .taken))
     (λ c. search needs)
     (λ c. simp length-set (omega arith))
@@ -40,12 +40,12 @@ write-immediate-setup-spec =
     (λ c. simp length-set (omega arith))
     (λ c. simp length-set (omega arith))
     (λ c. simp length-set (omega arith))
-    (λ c. omega (arith, good _ _ _ (run-is (c .before))))
+    (λ c. omega (arith, good _ _ _ _ (run-is (c .before))))
     (λ c. simp length-set (omega arith))
-    (λ c κs. simp length-set (omega (arith, good _ _ _ (run-is (c .before .before)))))
-    (λ c. let t = tested (c .before .before .before) in omega (arith, good _ _ _ (run-is (t .before))))
-    (λ c κs. let k = c .before .before .before in let t = tested k in omega (arith, good _ _ _ (run-is (t .before)), kept k, t .if3 .left))
-    (λ c. let t = tested (c .before .before .before .before .before .before) in omega (arith, good _ _ _ (run-is (t .before))))
+    (λ c κs. simp length-set (omega (arith, good _ _ _ _ (run-is (c .before .before)))))
+    (λ c. let t = tested (c .before .before .before) in omega (arith, good _ _ _ _ (run-is (t .before))))
+    (λ c κs. let k = c .before .before .before in let t = tested k in omega (arith, good _ _ _ _ (run-is (t .before)), kept k, t .if3 .left))
+    (λ c. let t = tested (c .before .before .before .before .before .before) in omega (arith, good _ _ _ _ (run-is (t .before))))
     (λ c. c .before .before .put-reference .kept .0 ∙ kept (c .before .before .before .before .before .before))
     (λ c.
     let k = c .before .before .before .before .before .before in

@@ -16,7 +16,7 @@ use Rattle.writing.proofs.kinds.write_status.Tie as tie
 fits-is : (c : tie.Else1) → let a = c .before .before .before .before .args in statusFits (a .source .now) (a .cause) (a .state) (a .attributes) ≡ true
 fits-is c = sym (c .before .status-fits .ensures) ∙ not-false _ (c .if1 .left)
 
-run-is : (c : tie.Else1) → let a = c .before .before .before .before .args in runFits (a .source .now) (a .cause) 247 ≡ true
+run-is : (c : tie.Else1) → let a = c .before .before .before .before .args in runFits (a .source .now) (a .cause) 1 247 ≡ true
 run-is c = fine _ _ _ _ (fits-is c) .run
 
 -- Past the second there is room for it.
@@ -36,14 +36,14 @@ write-status-spec =
     (tie.spec
     (λ c κs. search needs)
     (λ c. refused _ _ _ (sym (c .before .status-fits .ensures) ∙ not-true _ (c .if1 .taken)))
-    (λ c κs. omega (arith, good _ _ _ (run-is c)))
+    (λ c κs. omega (arith, good _ _ _ _ (run-is c)))
     (λ c. let f = fits-is (c .before .before) in no-room _ _ _ _ f (status-count _ _ _ _ _ f ∙ sym (c .before .status-count .ensures)) (c .if2 .taken))
     (λ c. omega (arith, room-is c))
     (λ c. simp length-set (omega (arith, room-is c)))
-    (λ c. omega (arith, good _ _ _ (run-is (c .before .before))))
+    (λ c. omega (arith, good _ _ _ _ (run-is (c .before .before))))
     (λ c. simp length-set (omega (arith, room-is c)))
-    (λ c κs. simp length-set (omega (arith, good _ _ _ (run-is (c .before .before .before)), room-is (c .before))))
-    (λ c. let t = tested (c .before .before .before) in omega (arith, good _ _ _ (run-is (t .before .before))))
+    (λ c κs. simp length-set (omega (arith, good _ _ _ _ (run-is (c .before .before .before)), room-is (c .before))))
+    (λ c. let t = tested (c .before .before .before) in omega (arith, good _ _ _ _ (run-is (t .before .before))))
     (λ c κs.
     let k = c .before .before .before in
     let t = tested k in

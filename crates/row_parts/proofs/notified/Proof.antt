@@ -1,0 +1,11 @@
+-- `notified` meets its contract: the timer that is set is the invitation's.
+use borrow.Author.Needs.{needs}
+use Rattle.row_parts.proofs.notified.Statement.{statement}
+use Rattle.row_parts.proofs.notified.Tie as tie
+
+pub notified-spec : {M : Type 1} → statement M
+notified-spec =
+    tie.close
+    (tie.spec
+    (λ c κs. search needs)
+    (λ c. rw (c .inviting .ensures)))
