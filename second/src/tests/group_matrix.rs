@@ -1,4 +1,4 @@
-//! The step of a group call, all states by event, typed off the rulings' matrix:
+//! The step of a group call, all states by event, typed off the paper's matrix:
 //! "3" is answer 3, "=" stays, the number is the actions; IS, SU, ST and TR are
 //! IMMEDIATE SETUP, SETUP, STATUS and TERMINATION REQUEST in the reply. Where a
 //! cell has several outcomes, the fit contexts of the state give all of them and
