@@ -264,7 +264,7 @@ static void in_u6(struct radio *radio, struct happening *happening, uint32_t die
 /* Any event of the table but a message. */
 static void any_event(struct radio *radio, struct happening *happening)
 {
-    uint32_t number = 1 + chance(radio, twin_greatest_event(radio->table) - 1);
+    uint32_t number = 1 + chance(radio, radio->table == THIRD ? 18 : 17);
     with_call(radio, happening, number < 18 ? number : 19);
 }
 
@@ -315,23 +315,12 @@ static void set_time(struct radio *radio, struct happening *happening)
     happening->delta = expires ? left : chance(radio, left / 2 + 1);
 }
 
-static void pack(const struct twin_context *context, uint8_t octets[16])
-{
-    memset(octets, 0, 16);
-    octets[0] = context->state;
-    octets[1] = twin_parameters(context);
-    octets[2] = 16 * context->pres + 8 * context->mm_est + 4 * context->term + 2 * context->conn_req + context->no_channel;
-    octets[3] = context->value;
-    memcpy(octets + 4, context->reference, 4);
-    octets[8] = context->from;
-}
-
 static void keep_step(struct logs *logs, const struct radio *radio, const struct happening *happening)
 {
     if (logs->step_count == STEPS)
         return;
     struct step_case *kept = &logs->steps[logs->step_count++];
-    pack(&radio->context, kept->context);
+    twin_write_context(&radio->context, kept->context);
     kept->event = happening->event;
     kept->length = happening->length;
     memcpy(kept->message, happening->message, happening->length);
