@@ -53,7 +53,7 @@ static inline bool twin_has_event(enum twin_table table, uint32_t number)
     return table == GROUP ? number >= 32 && number <= 36 : table == THIRD && number == 19;
 }
 
-/* A context as the host keeps it. */
+/* Writes the first ten octets of the context as the host keeps it; the others are zero. */
 void twin_write_context(const struct twin_context *context, uint8_t octets[16]);
 
 /* The step by a table over a context in its own form, which the judge uses, and over 16 octets, as the host has it, of a broadcast call (by the newest table)

@@ -2,11 +2,6 @@
  * A5). */
 #include "twin_parts.h"
 
-static bool is_sub_state(enum twin_state state)
-{
-    return state >= U2SL;
-}
-
 /* T_term runs and a state is remembered in U5 alone; no request can be sent from U2r and U2nc. */
 static bool is_asked_fitly_of_group(const struct twin_context *context)
 {
@@ -45,11 +40,11 @@ static bool has_fit_chooser(const struct twin_context *context)
 static bool has_fit_pendings(const struct twin_context *context)
 {
     enum twin_state state = context->state;
-    if (context->pending_termination && ((state != U1 && !is_sub_state(state)) || (context->orig && context->comm)))
+    if (context->pending_termination && ((state != U1 && !twin_is_sub_state(state)) || (context->orig && context->comm)))
         return false;
     if (context->pending_status && (state == U0 || context->comm))
         return false;
-    return !context->awaiting_value || (is_sub_state(state) && !context->orig);
+    return !context->awaiting_value || (twin_is_sub_state(state) && !context->orig);
 }
 
 bool twin_is_fit_group(const struct twin_context *context)
@@ -78,7 +73,7 @@ struct heidezirkel_step twin_answer_later(struct twin_context *context)
 
 static struct heidezirkel_step terminate_group(struct twin_context *context, uint8_t *reply)
 {
-    if ((context->state != U1 && !is_sub_state(context->state)) || !context->orig)
+    if ((context->state != U1 && !twin_is_sub_state(context->state)) || !context->orig)
         return answer(HEIDEZIRKEL_NO_STEP);
     if (context->comm)
         return taken(0, twin_request_termination(GROUP, context, reply));
@@ -102,7 +97,7 @@ static struct heidezirkel_step enter_mode(struct twin_context *context, enum twi
         twin_enter(context, state);
         return taken(INFORM, 0);
     }
-    if (!is_sub_state(context->state))
+    if (!twin_is_sub_state(context->state))
         return answer(HEIDEZIRKEL_NO_STEP);
     if (context->state != state)
         twin_enter(context, state);
@@ -118,18 +113,20 @@ static struct heidezirkel_step change_talk(struct twin_context *context, enum tw
     return taken(actions, 0);
 }
 
-static struct heidezirkel_step happen_to_group(struct twin_context *context, const struct twin_own *own, const struct heidezirkel_event *event,
-    uint8_t *reply)
+bool twin_is_group_event(uint32_t event)
 {
-    switch (event->number) {
+    return event >= 32 || event == 4 || event == 11 || event == 12 || event == 17;
+}
+
+struct heidezirkel_step twin_group_happen(struct twin_context *context, uint32_t event, uint8_t *reply)
+{
+    switch (event) {
     case 4:
         return terminate_group(context, reply);
     case 11:
         return enter_mode(context, U2R);
     case 12:
         return enter_mode(context, U2NC);
-    case 17:
-        return context->no_channel ? twin_end_call(context, INFORM + ABORT) : answer(HEIDEZIRKEL_NO_STEP);
     case 32:
         return change_talk(context, U2SL, U2SR, U2WR, REQUEST_GROUP_RECEIVE);
     case 33:
@@ -141,26 +138,21 @@ static struct heidezirkel_step happen_to_group(struct twin_context *context, con
     case 36:
         return delete_request(context);
     default:
-        return twin_happen(GROUP, context, own, event, reply);
+        return context->no_channel ? twin_end_call(context, INFORM + ABORT) : answer(HEIDEZIRKEL_NO_STEP);
     }
 }
 
-/* Any value but 7 is the call's, from the first message on that is taken; where none is taken the replies carry it and the context does not. */
-static struct heidezirkel_step hear_awaited(struct twin_context *context, const struct twin_own *own, uint8_t mode, const uint8_t *message,
-    size_t length, uint8_t *reply)
+/* 6.3.1.1: any value but 7, which no call has. */
+void twin_adopt_value(struct twin_context *context, const uint8_t *message, size_t length)
 {
-    struct twin_context heard = *context;
-    heard.awaiting_value = false;
-    if (length > 0 && (message[0] >> 4 & 7) <= 6)
-        heard.value = message[0] >> 4 & 7;
-    struct heidezirkel_step step = twin_hear(GROUP, &heard, own, mode, message, length, reply);
-    if (step.answer == HEIDEZIRKEL_TAKEN)
-        *context = heard;
-    return step;
+    uint8_t value = length > 0 ? message[0] >> 4 & 7 : 7;
+    context->awaiting_value = false;
+    if (value <= 6)
+        context->value = value;
 }
 
 /* What waited is sent as soon as COMM is true, a termination request only by an originator. The answer to GET STATUS shows the state before U5. */
-static size_t send_pending(struct twin_context *context, uint8_t *reply)
+size_t twin_send_pending(struct twin_context *context, uint8_t *reply)
 {
     size_t length = 0;
     if (!context->comm)
@@ -174,19 +166,4 @@ static size_t send_pending(struct twin_context *context, uint8_t *reply)
         length += twin_request_termination(GROUP, context, reply + length);
     }
     return length;
-}
-
-struct heidezirkel_step twin_group_take(struct twin_context *context, const struct twin_own *own, const struct heidezirkel_event *event,
-    const uint8_t *message, size_t length, uint8_t *reply)
-{
-    struct heidezirkel_step step;
-    if (event->number != 18)
-        step = happen_to_group(context, own, event, reply);
-    else if (context->awaiting_value)
-        step = hear_awaited(context, own, event->mode, message, length, reply);
-    else
-        step = twin_hear(GROUP, context, own, event->mode, message, length, reply);
-    if (step.answer == HEIDEZIRKEL_TAKEN)
-        step.reply_length += send_pending(context, reply + step.reply_length);
-    return step;
 }

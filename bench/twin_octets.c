@@ -1,4 +1,4 @@
-/* twin_octets.c: the context and the settings as octets, and the step over them, as a host has it. */
+/* twin_octets.c: the context and the settings as a host has them, as octets and as what they say, and the step over them. */
 #include <string.h>
 #include "twin.h"
 
@@ -10,6 +10,26 @@ struct twin_own twin_read_own(const uint8_t settings[21])
     own.identity_length = settings[4];
     memcpy(own.identity, settings + 5, 8);
     return own;
+}
+
+int twin_parameters(const struct twin_context *context)
+{
+    return 8 * context->orig + 4 * context->comm + 2 * context->datt + context->uatt;
+}
+
+enum twin_timer twin_running(const struct twin_context *context)
+{
+    if (context->mm_est)
+        return T_MM_EST;
+    if (context->term)
+        return T_TERM;
+    if (context->conn_req)
+        return T_CONN_REQ;
+    if (context->no_channel)
+        return T_NO_CHANNEL;
+    if (context->pres)
+        return T_PRES;
+    return NO_TIMER;
 }
 
 /* Whether each octet is a value of its field in a context of this protocol; which values go together is asked by the step. */
@@ -25,28 +45,28 @@ static bool are_values(enum twin_table table, const uint8_t octets[16])
     return true;
 }
 
-static struct twin_context read_context(const uint8_t octets[16])
+static bool read_context(enum twin_table table, const uint8_t octets[16], struct twin_context *context)
 {
-    struct twin_context context = {
-        .state = octets[0],
-        .orig = octets[1] & 8,
-        .comm = octets[1] & 4,
-        .datt = octets[1] & 2,
-        .uatt = octets[1] & 1,
-        .pres = octets[2] & 16,
-        .mm_est = octets[2] & 8,
-        .term = octets[2] & 4,
-        .conn_req = octets[2] & 2,
-        .no_channel = octets[2] & 1,
-        .value = octets[3],
-        .from = octets[8],
-        .chooser = octets[9] & 3,
-        .pending_termination = octets[9] & 4,
-        .pending_status = octets[9] & 8,
-        .awaiting_value = octets[9] & 16,
-    };
-    memcpy(context.reference, octets + 4, 4);
-    return context;
+    if (!are_values(table, octets))
+        return false;
+    context->state = octets[0];
+    context->orig = octets[1] & 8;
+    context->comm = octets[1] & 4;
+    context->datt = octets[1] & 2;
+    context->uatt = octets[1] & 1;
+    context->pres = octets[2] & 16;
+    context->mm_est = octets[2] & 8;
+    context->term = octets[2] & 4;
+    context->conn_req = octets[2] & 2;
+    context->no_channel = octets[2] & 1;
+    context->value = octets[3];
+    memcpy(context->reference, octets + 4, 4);
+    context->from = octets[8];
+    context->chooser = octets[9] & 3;
+    context->pending_termination = octets[9] & 4;
+    context->pending_status = octets[9] & 8;
+    context->awaiting_value = octets[9] & 16;
+    return true;
 }
 
 void twin_write_context(const struct twin_context *context, uint8_t octets[16])
@@ -58,15 +78,14 @@ void twin_write_context(const struct twin_context *context, uint8_t octets[16])
     memcpy(octets + 4, context->reference, 4);
     octets[8] = context->from;
     octets[9] = context->chooser + 4 * context->pending_termination + 8 * context->pending_status + 16 * context->awaiting_value;
-    memset(octets + 10, 0, 6);
 }
 
-static struct heidezirkel_step step_by(enum twin_table table, uint8_t octets[16], const uint8_t settings[21], const struct heidezirkel_event *event,
+static struct heidezirkel_step step_octets(enum twin_table table, uint8_t octets[16], const uint8_t settings[21], const struct heidezirkel_event *event,
     const uint8_t *message, size_t length, uint8_t *reply, size_t room)
 {
-    if (!are_values(table, octets))
+    struct twin_context context;
+    if (!read_context(table, octets, &context))
         return (struct heidezirkel_step){.answer = HEIDEZIRKEL_NO_CONTEXT};
-    struct twin_context context = read_context(octets);
     struct twin_own own = twin_read_own(settings);
     struct heidezirkel_step step = twin_take(table, &context, &own, event, message, length, reply, room);
     twin_write_context(&context, octets);
@@ -76,11 +95,11 @@ static struct heidezirkel_step step_by(enum twin_table table, uint8_t octets[16]
 struct heidezirkel_step twin_step(uint8_t octets[16], const uint8_t settings[21], struct heidezirkel_event event, const uint8_t *message,
     size_t length, uint8_t *reply, size_t room)
 {
-    return step_by(NEWEST, octets, settings, &event, message, length, reply, room);
+    return step_octets(NEWEST, octets, settings, &event, message, length, reply, room);
 }
 
 struct heidezirkel_step twin_group_step(uint8_t octets[16], const uint8_t settings[21], struct heidezirkel_event event, const uint8_t *message,
     size_t length, uint8_t *reply, size_t room)
 {
-    return step_by(GROUP, octets, settings, &event, message, length, reply, room);
+    return step_octets(GROUP, octets, settings, &event, message, length, reply, room);
 }

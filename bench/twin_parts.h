@@ -1,4 +1,4 @@
-/* twin_parts.h: what twin_step.c, the step of both protocols, and twin_group.c, what group calls alone have, take from each other. */
+/* twin_parts.h: what the step of both protocols (twin_step.c) and what group calls alone have (twin_group.c) take from each other. */
 #ifndef TWIN_PARTS_H
 #define TWIN_PARTS_H
 #include "twin.h"
@@ -13,6 +13,11 @@ enum {
     IMPLICIT_MM = 32,
     REQUEST_GROUP_TRANSMIT = 64,
 };
+
+static inline bool twin_is_sub_state(enum twin_state state)
+{
+    return state >= U2SL;
+}
 
 static inline struct heidezirkel_step answer(uint32_t number)
 {
@@ -30,15 +35,13 @@ struct heidezirkel_step twin_end_call(struct twin_context *context, uint32_t act
 /* The answer to GET STATUS, and the request that leads to U5, with how long the reply is. */
 size_t twin_put_answer(enum twin_table table, const struct twin_context *context, uint8_t *reply);
 size_t twin_request_termination(enum twin_table table, struct twin_context *context, uint8_t *reply);
-/* A message, and every other event. */
-struct heidezirkel_step twin_hear(enum twin_table table, struct twin_context *context, const struct twin_own *own, uint8_t mode,
-    const uint8_t *message, size_t length, uint8_t *reply);
-struct heidezirkel_step twin_happen(enum twin_table table, struct twin_context *context, const struct twin_own *own,
-    const struct heidezirkel_event *event, uint8_t *reply);
 
-/* Of group calls: what "fit" asks of them beside what it asks of both, a step, and GET STATUS while nothing may be sent. */
+/* Of group calls: what "fit" asks of them beside what it asks of both, their own events, GET STATUS while nothing may be sent, the value of a message where one is awaited, and what waited and may be sent now,
+ * with how long it is. */
 bool twin_is_fit_group(const struct twin_context *context);
-struct heidezirkel_step twin_group_take(struct twin_context *context, const struct twin_own *own, const struct heidezirkel_event *event,
-    const uint8_t *message, size_t length, uint8_t *reply);
+bool twin_is_group_event(uint32_t event);
+struct heidezirkel_step twin_group_happen(struct twin_context *context, uint32_t event, uint8_t *reply);
 struct heidezirkel_step twin_answer_later(struct twin_context *context);
+void twin_adopt_value(struct twin_context *context, const uint8_t *message, size_t length);
+size_t twin_send_pending(struct twin_context *context, uint8_t *reply);
 #endif

@@ -41,26 +41,6 @@ bool twin_own_in_range(const struct twin_own *own)
     return own->key <= 7 && own->identity_length >= 1 && own->identity_length <= 8;
 }
 
-int twin_parameters(const struct twin_context *context)
-{
-    return 8 * context->orig + 4 * context->comm + 2 * context->datt + context->uatt;
-}
-
-enum twin_timer twin_running(const struct twin_context *context)
-{
-    if (context->mm_est)
-        return T_MM_EST;
-    if (context->term)
-        return T_TERM;
-    if (context->conn_req)
-        return T_CONN_REQ;
-    if (context->no_channel)
-        return T_NO_CHANNEL;
-    if (context->pres)
-        return T_PRES;
-    return NO_TIMER;
-}
-
 /* 6.1.2.1.11 of both standards: each has its own states, beside those in which they ask the same. */
 static bool is_consistent(enum twin_state state, bool orig, bool comm)
 {
@@ -134,7 +114,7 @@ void twin_enter(struct twin_context *context, enum twin_state state)
         memset(context, 0, sizeof *context);
         return;
     }
-    if (state >= U2SL) {
+    if (twin_is_sub_state(state)) {
         enter_sub_state(context, state);
         return;
     }
@@ -392,7 +372,7 @@ static struct heidezirkel_step rejected(enum twin_table table, struct twin_conte
 }
 
 /* The six rules of received messages, in their order. */
-struct heidezirkel_step twin_hear(enum twin_table table, struct twin_context *context, const struct twin_own *own, uint8_t mode,
+static struct heidezirkel_step hear(enum twin_table table, struct twin_context *context, const struct twin_own *own, uint8_t mode,
     const uint8_t *message, size_t length, uint8_t *reply)
 {
     if (context->state == U0)
@@ -428,6 +408,22 @@ struct heidezirkel_step twin_hear(enum twin_table table, struct twin_context *co
     default:
         return twin_end_call(context, INFORM + RELEASE);
     }
+}
+
+/* Where the value is awaited, that of this message is the call's; and again awaited where the message isn't taken. */
+static struct heidezirkel_step hear_call(enum twin_table table, struct twin_context *context, const struct twin_own *own, uint8_t mode,
+    const uint8_t *message, size_t length, uint8_t *reply)
+{
+    bool awaited = context->awaiting_value;
+    uint8_t value = context->value;
+    if (awaited)
+        twin_adopt_value(context, message, length);
+    struct heidezirkel_step step = hear(table, context, own, mode, message, length, reply);
+    if (awaited && step.answer != HEIDEZIRKEL_TAKEN) {
+        context->value = value;
+        context->awaiting_value = true;
+    }
+    return step;
 }
 
 static struct heidezirkel_step in_u0(enum twin_table table, struct twin_context *context, const struct twin_own *own,
@@ -515,10 +511,12 @@ static struct heidezirkel_step in_u6(struct twin_context *context, uint32_t even
     }
 }
 
-struct heidezirkel_step twin_happen(enum twin_table table, struct twin_context *context, const struct twin_own *own,
+static struct heidezirkel_step happen(enum twin_table table, struct twin_context *context, const struct twin_own *own,
     const struct heidezirkel_event *event, uint8_t *reply)
 {
     uint32_t number = event->number;
+    if (table == GROUP && twin_is_group_event(number))
+        return twin_group_happen(context, number, reply);
     if (context->state == U0)
         return in_u0(table, context, own, event, reply);
     if (number == 5)
@@ -585,9 +583,9 @@ struct heidezirkel_step twin_take(enum twin_table table, struct twin_context *co
         return answer(HEIDEZIRKEL_LONG_MESSAGE);
     if (!twin_own_in_range(own) || !event_in_range(table, event))
         return answer(HEIDEZIRKEL_OUT_OF_RANGE);
-    if (table == GROUP)
-        return twin_group_take(context, own, event, message, length, reply);
-    if (event->number == 18)
-        return twin_hear(table, context, own, event->mode, message, length, reply);
-    return twin_happen(table, context, own, event, reply);
+    struct heidezirkel_step step = event->number == 18 ? hear_call(table, context, own, event->mode, message, length, reply)
+                                                       : happen(table, context, own, event, reply);
+    if (table == GROUP && step.answer == HEIDEZIRKEL_TAKEN)
+        step.reply_length += twin_send_pending(context, reply + step.reply_length);
+    return step;
 }
