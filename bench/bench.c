@@ -224,7 +224,7 @@ static void same_step(struct stepping *by, const char *what, size_t place, const
         by->ninths |= at->context[9];
 }
 
-/* A context that may be none, or not fit: each of its bits changed in turn. */
+/* A context that may be none, or not fit: each of its bits changed in turn. Then, where one side chose the value, as if the other had. */
 static void same_when_unfit(struct stepping *by, size_t place, struct step_case other)
 {
     for (size_t octet = 0; octet < 16; octet++)
@@ -233,6 +233,15 @@ static void same_when_unfit(struct stepping *by, size_t place, struct step_case 
             same_step(by, "a step whose context has one bit changed", place, &other);
             other.context[octet] ^= 1 << bit;
         }
+    other.context[9] ^= US + CELL;
+    same_step(by, "a step whose value the other side chose", place, &other);
+}
+
+/* Every event in this context, and some that no table has. */
+static void same_at_each_event(struct stepping *by, size_t place, struct step_case other)
+{
+    for (other.event.number = 0; other.event.number <= 40; other.event.number++)
+        same_step(by, "a step with another event", place, &other);
 }
 
 /* A message of another protocol or another call: each bit of its first octet changed in turn. Then with no octet and with one. */
@@ -262,6 +271,7 @@ static void same_steps(struct stepping *by, const struct logs *of)
     for (size_t i = 0; i < of->step_count; i++) {
         same_step(by, "a step", i, &of->steps[i]);
         same_when_unfit(by, i, of->steps[i]);
+        same_at_each_event(by, i, of->steps[i]);
         if (of->steps[i].event.number == 18)
             same_when_misheard(by, i, of->steps[i]);
     }

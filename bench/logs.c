@@ -345,6 +345,22 @@ static void any_event(struct radio *radio, struct happening *happening)
     with_call(radio, happening, number);
 }
 
+/* In a group call, whatever its state: the cell asks a radio that may have to answer later, or sets its parameters; and the user takes back what still
+ * waits. */
+static bool at_any_time(struct radio *radio, struct happening *happening)
+{
+    uint32_t die = chance(radio, 48);
+    if (die < 3)
+        get_status(radio, happening);
+    else if (die < 5)
+        set_parameter(radio, happening);
+    else if (die < 14 && radio->context.pending_termination)
+        plain(happening, 36);
+    else
+        return false;
+    return true;
+}
+
 static void choose(struct radio *radio, struct happening *happening)
 {
     uint32_t die = chance(radio, 100);
@@ -352,11 +368,8 @@ static void choose(struct radio *radio, struct happening *happening)
         any_event(radio, happening);
         return;
     }
-    /* The cell of a group call may ask at any time: a radio that can't answer now answers later. */
-    if (radio->table == GROUP && chance(radio, 12) == 0) {
-        get_status(radio, happening);
+    if (radio->table == GROUP && at_any_time(radio, happening))
         return;
-    }
     switch (radio->context.state) {
     case U0:
         in_u0(radio, happening, die);
