@@ -36,8 +36,8 @@ struct heidezirkel_step twin_end_call(struct twin_context *context, uint32_t act
 size_t twin_put_answer(enum twin_table table, const struct twin_context *context, uint8_t *reply);
 size_t twin_request_termination(enum twin_table table, struct twin_context *context, uint8_t *reply);
 
-/* Of group calls: what "fit" asks of them beside what it asks of both, their own events, GET STATUS while nothing may be sent, the value of a message where one is awaited, and what waited and may be sent now,
- * with how long it is. */
+/* Of group calls: what "fit" asks of them beside what it asks of both, their own events, GET STATUS while nothing may be sent, the value of a message where
+ * one is awaited, and what waited and may be sent now, with how long it is. */
 bool twin_is_fit_group(const struct twin_context *context);
 bool twin_is_group_event(uint32_t event);
 struct heidezirkel_step twin_group_happen(struct twin_context *context, uint32_t event, uint8_t *reply);

@@ -187,38 +187,8 @@ static size_t put_immediate_setup(enum twin_table table, const struct twin_conte
     return at + 4;
 }
 
-/* 9.4.2 of both standards. */
-static uint8_t call_state(enum twin_state state)
-{
-    switch (state) {
-    case U0P:
-        return 6;
-    case U1:
-        return 1;
-    case U2:
-    case U2SL:
-        return 2;
-    case U3:
-        return 3;
-    case U4:
-        return 4;
-    case U5:
-        return 5;
-    case U6:
-    case U2WR:
-        return 7;
-    case U2R:
-        return 8;
-    case U2WS:
-        return 9;
-    case U2SR:
-        return 10;
-    case U2NC:
-        return 11;
-    default:
-        return 0;
-    }
-}
+/* The code of each state: 9.4.2 of both standards. */
+static const uint8_t call_states[14] = {0, 6, 1, 2, 3, 4, 5, 7, 2, 7, 8, 9, 10, 11};
 
 /* Table 8.6, with `count` octets of the message received behind the cause. */
 static size_t put_status(enum twin_table table, const struct twin_context *context, uint8_t cause, const uint8_t *message, size_t count, uint8_t *reply)
@@ -228,7 +198,7 @@ static size_t put_status(enum twin_table table, const struct twin_context *conte
     reply[at++] = 128 + cause;
     memcpy(reply + at, message, count);
     at += count;
-    reply[at++] = 0xa0 + call_state(context->state);
+    reply[at++] = 0xa0 + call_states[context->state];
     reply[at++] = 0xb0 + 8 * context->datt + 4 * context->uatt + 2 * context->comm + context->orig;
     return at;
 }
@@ -476,7 +446,9 @@ size_t twin_request_termination(enum twin_table table, struct twin_context *cont
 
 static struct heidezirkel_step terminate(enum twin_table table, struct twin_context *context, uint8_t *reply)
 {
-    return context->orig ? taken(0, twin_request_termination(table, context, reply)) : answer(HEIDEZIRKEL_NO_STEP);
+    if (!context->orig)
+        return answer(HEIDEZIRKEL_NO_STEP);
+    return taken(0, twin_request_termination(table, context, reply));
 }
 
 /* T_pres runs here by the third table alone, which alone has its expiry. */
@@ -490,6 +462,20 @@ static struct heidezirkel_step in_u3(struct twin_context *context, uint32_t even
         return taken(REQUEST_GROUP_RECEIVE, 0);
     case 19:
         return twin_end_call(context, 0);
+    default:
+        return answer(HEIDEZIRKEL_NO_STEP);
+    }
+}
+
+static struct heidezirkel_step in_u4(struct twin_context *context, uint32_t event)
+{
+    switch (event) {
+    case 11:
+        context->conn_req = false;
+        twin_enter(context, U6);
+        return taken(INFORM, 0);
+    case 16:
+        return twin_end_call(context, INFORM + ABORT);
     default:
         return answer(HEIDEZIRKEL_NO_STEP);
     }
@@ -543,12 +529,7 @@ static struct heidezirkel_step happen(enum twin_table table, struct twin_context
     case U3:
         return in_u3(context, number);
     case U4:
-        if (number == 11) {
-            context->conn_req = false;
-            twin_enter(context, U6);
-            return taken(INFORM, 0);
-        }
-        return number == 16 ? twin_end_call(context, INFORM + ABORT) : answer(HEIDEZIRKEL_NO_STEP);
+        return in_u4(context, number);
     case U5:
         return number == 15 && context->term ? twin_end_call(context, INFORM + ABORT) : answer(HEIDEZIRKEL_NO_STEP);
     case U6:
