@@ -507,9 +507,7 @@ static struct heidezirkel_step happen(enum twin_table table, struct twin_context
         return in_u0(table, context, own, event, reply);
     if (number == 5)
         return twin_end_call(context, RELEASE);
-    if (number == 9)
-        return twin_end_call(context, INFORM + ABORT);
-    if (number == 8 && context->state >= U2)
+    if (number == 9 || (number == 8 && context->state >= U2))
         return twin_end_call(context, INFORM + ABORT);
 
     switch (context->state) {
@@ -521,9 +519,7 @@ static struct heidezirkel_step happen(enum twin_table table, struct twin_context
         }
         return while_setting_up(context, number);
     case U1:
-        if (number == 4)
-            return terminate(table, context, reply);
-        return while_setting_up(context, number);
+        return number == 4 ? terminate(table, context, reply) : while_setting_up(context, number);
     case U2:
         return number == 4 ? terminate(table, context, reply) : answer(HEIDEZIRKEL_NO_STEP);
     case U3:
