@@ -5,6 +5,7 @@
 use super::group_step::{context, first, plain, received, step, CONTEXTS};
 use super::group_step_pending::asked_timers;
 use super::step::OWN;
+use super::step_limits::wrong_at_once;
 use crate::probe::tokens::hexadecimal;
 use crate::state::GROUP_STATES;
 
@@ -202,17 +203,9 @@ fn arguments(lines: &mut Vec<String>) {
 
 /// All sets of the five things that can be wrong at once.
 fn order_of_tests(lines: &mut Vec<String>) {
-    for set in 0..32 {
-        let wrong = |place: u32| set >> place & 1 == 1;
-        let pending = if wrong(0) { 4 } else { 0 };
-        let buffer_length = if wrong(1) { 254 } else { 255 };
-        let length = if wrong(2) { 252 } else { 251 };
-        let mode = if wrong(3) { 2 } else { 0 };
-        let own = if wrong(4) { "8 3359a2 -" } else { OWN };
-        let octets = hexadecimal(&vec![0x50; length]);
-        lines.push(format!(
-            "gstep {} {own} {buffer_length} 18 0 00000000 {mode} {octets}",
-            context([4, 0, 0, 0, 2, pending])
-        ));
+    for (unfit, rest) in wrong_at_once(0x50) {
+        let pending = if unfit { 4 } else { 0 };
+        let context = context([4, 0, 0, 0, 2, pending]);
+        lines.push(format!("gstep {context} {rest}"));
     }
 }
