@@ -64,12 +64,22 @@ pub enum Reason {
 // What is due, settled: what a step comes to before its reply is octets. The answer is document 01's number; the reason is the number of why a message is
 // ignored, and 0 with every other answer.
 pub struct Settled {
+    pub context: Context,
     pub answer: u8,
     pub reason: u8,
-    pub context: Context,
     pub actions: u8,
-    pub sends: Send,
+    pub sends: Sending,
     pub sent: Sent,
+}
+
+// What the step itself sends.
+pub enum Sending {
+    // What its row sends.
+    OfRow(Send),
+    // A STATUS with this cause.
+    Status(u8),
+    // A STATUS with this cause and, if it fits, a copy of the message received.
+    ErrorStatus(u8),
 }
 
 // What was pending in a group call and is sent now, behind what the step itself sends: a STATUS that tells this state and these parameters, then a TERMINATION REQUEST.
