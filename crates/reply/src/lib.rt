@@ -7,8 +7,8 @@ ghost use lib.ListN.{length, getD};
 ghost use lib.Seq.{sets};
 ghost use Rattle.octets.specs.Run.{part};
 ghost use Rattle.message.specs.Content.{immediateSetup};
-ghost use Rattle.reply.specs.Reply.{copyCount, statusOf, hearing, putContent, putOf, putAll};
-ghost use Rattle.reply.specs.Put.{countOf, statusTelling, putFrom, putSix, placed, pendingOf};
+ghost use Rattle.reply.specs.Reply.{copyCount, hearing, putContent, putOf, putAll};
+ghost use Rattle.reply.specs.Put.{countOf, senderOf, statusBy, statusTelling, putBy, putFrom, putSix, placed, pendingOf};
 use call::Sent;
 use codes::attributes::Parameters;
 use codes::attributes::attributes_of;
@@ -42,19 +42,41 @@ fn written_count(wrote: Wrote) -> usize
     }
 }
 
-// Writes a message of the context's transaction; its runs lie in `source`.
+// What a message has of the context that it is sent in: the transaction's flag and value, and what a STATUS tells.
+// It has few octets. A context that was handed to a function of two callers would stand in memory at every step, also where nothing is sent.
+struct Sender {
+    flag: bool,
+    value: u8,
+    state: State,
+    parameters: Parameters,
+}
+
+fn sender_of(context: Context) -> Sender
+    ensures { λ r. ⌜ r ≡ senderOf context ⌝ }
+{
+    let flag = context::expected_flag(context);
+    let state = context.state;
+    let parameters = context.parameters;
+    Sender {
+        flag: !flag,
+        value: context.value,
+        state,
+        parameters,
+    }
+}
+
+// Writes a message of the sender's transaction; its runs lie in `source`.
 fn put_message(
     protocol: Protocol,
     reply: &mut [u8],
     source: &[u8],
-    context: Context,
+    sender: Sender,
     message: Message,
 ) -> usize
-    ensures { λ r. ⌜ r ≡ length (putFrom protocol (length (now (reply .entry))) (now (source .entry)) context message) ⌝ }
-    ensures { λ _. ⌜ now (reply .exit) ≡ sets (now (reply .entry)) 0 (putFrom protocol (length (now (reply .entry))) (now (source .entry)) context message) ⌝ }
+    ensures { λ r. ⌜ r ≡ length (putFrom protocol (length (now (reply .entry))) (now (source .entry)) sender message) ⌝ }
+    ensures { λ _. ⌜ now (reply .exit) ≡ sets (now (reply .entry)) 0 (putFrom protocol (length (now (reply .entry))) (now (source .entry)) sender message) ⌝ }
 {
-    let flag = context::expected_flag(context);
-    let wrote = writing::write(protocol, reply, source, !flag, context.value, message);
+    let wrote = writing::write(protocol, reply, source, sender.flag, sender.value, message);
     written_count(wrote)
 }
 
@@ -75,17 +97,17 @@ fn status_telling(cause: Run, state: State, parameters: Parameters) -> Message
 fn put_status(
     protocol: Protocol,
     reply: &mut [u8],
-    context: Context,
+    sender: Sender,
     cause: u8,
     octets: &[u8],
     count: usize,
 ) -> usize
     requires { ⌜ (count ≤ 245) × (count ≤ length (now octets)) ⌝ }
-    ensures { λ r. ⌜ r ≡ length (putContent protocol (length (now (reply .entry))) context (statusOf context ((128 + cause % 128) ∷ part (now (octets .entry)) 0 count))) ⌝ }
-    ensures { λ _. ⌜ now (reply .exit) ≡ sets (now (reply .entry)) 0 (putContent protocol (length (now (reply .entry))) context (statusOf context ((128 + cause % 128) ∷ part (now (octets .entry)) 0 count))) ⌝ }
+    ensures { λ r. ⌜ r ≡ length (putBy protocol (length (now (reply .entry))) sender (statusBy sender ((128 + cause % 128) ∷ part (now (octets .entry)) 0 count))) ⌝ }
+    ensures { λ _. ⌜ now (reply .exit) ≡ sets (now (reply .entry)) 0 (putBy protocol (length (now (reply .entry))) sender (statusBy sender ((128 + cause % 128) ∷ part (now (octets .entry)) 0 count))) ⌝ }
 {
-    let state = context.state;
-    let parameters = context.parameters;
+    let state = sender.state;
+    let parameters = sender.parameters;
     let mut source = [0u8; 246];
     source[0] = 128 + cause % 128;
     copy_to(&mut source, 1, octets, 0, count);
@@ -94,7 +116,7 @@ fn put_status(
         count: 1 + count,
     };
     let message = status_telling(whole, state, parameters);
-    put_message(protocol, reply, &source, context, message)
+    put_message(protocol, reply, &source, sender, message)
 }
 
 // How many octets of a message received an error STATUS copies: all or none.
@@ -131,7 +153,8 @@ fn put_immediate(
         identity: run,
         reference,
     };
-    put_message(protocol, reply, identity, context, message)
+    let sender = sender_of(context);
+    put_message(protocol, reply, identity, sender, message)
 }
 
 // The first octet of a message, and 0 where there is none.
@@ -196,20 +219,20 @@ fn put_own(
             protocol,
             reply,
             identity,
-            context,
+            sender_of(context),
             Message::Setup { reference },
         ),
         Send::TerminationRequest => put_message(
             protocol,
             reply,
             identity,
-            context,
+            sender_of(context),
             Message::TerminationRequest { reference },
         ),
-        Send::Status(cause) => put_status(protocol, reply, context, cause, octets, 0),
+        Send::Status(cause) => put_status(protocol, reply, sender_of(context), cause, octets, 0),
         Send::ErrorStatus(cause) => {
             let count = copy_count(octets.len());
-            let heard = hearing(octets, context);
+            let heard = sender_of(hearing(octets, context));
             put_status(protocol, reply, heard, cause, octets, count)
         }
     }
