@@ -26,7 +26,7 @@ use Rattle.context.specs.declared.Context.{Context}
 use Rattle.context.specs.Talk.{flagOf}
 use Rattle.call.specs.declared.Sent.{Sent}
 use Rattle.call.specs.Talk.{withValue}
-use Rattle.transitions.specs.declared.Send.{Send}
+use Rattle.call.specs.declared.Sending.{Sending}
 use Rattle.reply.specs.declared.Own.{Own}
 use Rattle.reply.specs.Reply.{flagSent, sent, causeOctet, hearing, behind, putDue, putOf, putAll}
 use Rattle.reply.specs.Put.{countOf, statusTelling, putSix, placed, pendingOf}
@@ -207,7 +207,7 @@ module _ (protocol : Protocol) (x : Context) (k : Sent) where
   unfolding putDue putSix writable sent written table
   request-due = refl
 
-module _ (protocol : Protocol) (own : Own) (identity s d : List ℕ) (x : Context) (sends : Send) (k : Sent) where
+module _ (protocol : Protocol) (own : Own) (identity s d : List ℕ) (x : Context) (sends : Sending) (k : Sent) where
   abbrev ours : List ℕ
   ours = putOf protocol (length d) own identity s x sends
 

@@ -28,7 +28,6 @@ use Rattle.writing.specs.Writing.{writable, octetsWritten, writeAnswer, writeLe
 use Rattle.codes.specs.declared.protocol.Protocol.{Protocol}
 use Rattle.context.specs.declared.Context.{Context}
 use Rattle.context.specs.Talk.{flagOf}
-use Rattle.transitions.specs.declared.Send.{Send}
 use Rattle.reply.specs.declared.Own.{Own}
 use Rattle.reply.specs.declared.Sender.{Sender}
 use Rattle.reply.specs.Reply.{sent, statusOf, causeOctet, copied, copyCount, hearing, putContent, putOf}
@@ -125,7 +124,6 @@ pub put-as : (d after w v : List ℕ) (n : ℕ) → w ≡ v → (n ≡ length w)
 put-as d after w v n e p = (p .0 ∙ ap length e, p .1 ∙ ap (sets d 0) e)
 
 -- The same for one case of what is sent.
-pub put-case : (protocol : Protocol) (d identity s : List ℕ) (own : Own) (x : Context) (sends m : Send) (after w : List ℕ) (n : ℕ) → sends ≡ m
-    → w ≡ putOf protocol (length d) own identity s x m → (n ≡ length w) × (after ≡ sets d 0 w)
-    → (n ≡ length (putOf protocol (length d) own identity s x sends)) × (after ≡ sets d 0 (putOf protocol (length d) own identity s x sends))
-put-case protocol d identity s own x sends m after w n e q p = put-as d after w _ n (q ∙ ap (putOf protocol (length d) own identity s x) (sym e)) p
+pub put-case : {A : Type 0} (put : A → List ℕ) (d : List ℕ) (sends m : A) (after w : List ℕ) (n : ℕ) → sends ≡ m → w ≡ put m → (n ≡ length w) × (after ≡ sets d 0 w)
+    → (n ≡ length (put sends)) × (after ≡ sets d 0 (put sends))
+put-case put d sends m after w n e q p = put-as d after w _ n (q ∙ ap put (sym e)) p

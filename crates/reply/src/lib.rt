@@ -7,8 +7,9 @@ ghost use lib.ListN.{length, getD};
 ghost use lib.Seq.{sets};
 ghost use Rattle.octets.specs.Run.{part};
 ghost use Rattle.message.specs.Content.{immediateSetup};
-ghost use Rattle.reply.specs.Reply.{copyCount, hearing, putContent, putOf, putAll};
+ghost use Rattle.reply.specs.Reply.{copyCount, hearing, putContent, putRow, putOf, putAll};
 ghost use Rattle.reply.specs.Put.{countOf, senderOf, statusBy, statusTelling, putBy, putFrom, putSix, placed, pendingOf};
+use call::Sending;
 use call::Sent;
 use codes::attributes::Parameters;
 use codes::attributes::attributes_of;
@@ -198,21 +199,20 @@ fn hearing(octets: &[u8], context: Context) -> Context
     }
 }
 
-// Writes what the row itself sends over the start of `reply`, and says how many octets that are. `octets` is the message received.
-fn put_own(
+// Writes what a row sends over the start of `reply`, and says how many octets that are.
+fn put_row(
     protocol: Protocol,
     reply: &mut [u8],
     own: Own,
     identity: &[u8],
-    octets: &[u8],
     context: Context,
-    sends: Send,
+    send: Send,
 ) -> usize
-    ensures { λ r. ⌜ r ≡ length (putOf protocol (length (now (reply .entry))) own (now (identity .entry)) (now (octets .entry)) context sends) ⌝ }
-    ensures { λ _. ⌜ now (reply .exit) ≡ sets (now (reply .entry)) 0 (putOf protocol (length (now (reply .entry))) own (now (identity .entry)) (now (octets .entry)) context sends) ⌝ }
+    ensures { λ r. ⌜ r ≡ length (putRow protocol (length (now (reply .entry))) own (now (identity .entry)) context send) ⌝ }
+    ensures { λ _. ⌜ now (reply .exit) ≡ sets (now (reply .entry)) 0 (putRow protocol (length (now (reply .entry))) own (now (identity .entry)) context send) ⌝ }
 {
     let reference = context.reference;
-    match sends {
+    match send {
         Send::Nothing => 0,
         Send::ImmediateSetup => put_immediate(protocol, reply, own, identity, context),
         Send::Setup => put_message(
@@ -229,8 +229,26 @@ fn put_own(
             sender_of(context),
             Message::TerminationRequest { reference },
         ),
-        Send::Status(cause) => put_status(protocol, reply, sender_of(context), cause, octets, 0),
-        Send::ErrorStatus(cause) => {
+    }
+}
+
+// Writes what the step itself sends over the start of `reply`, and says how many octets that are. `octets` is the message received.
+fn put_own(
+    protocol: Protocol,
+    reply: &mut [u8],
+    own: Own,
+    identity: &[u8],
+    octets: &[u8],
+    context: Context,
+    sends: Sending,
+) -> usize
+    ensures { λ r. ⌜ r ≡ length (putOf protocol (length (now (reply .entry))) own (now (identity .entry)) (now (octets .entry)) context sends) ⌝ }
+    ensures { λ _. ⌜ now (reply .exit) ≡ sets (now (reply .entry)) 0 (putOf protocol (length (now (reply .entry))) own (now (identity .entry)) (now (octets .entry)) context sends) ⌝ }
+{
+    match sends {
+        Sending::OfRow(send) => put_row(protocol, reply, own, identity, context, send),
+        Sending::Status(cause) => put_status(protocol, reply, sender_of(context), cause, octets, 0),
+        Sending::ErrorStatus(cause) => {
             let count = copy_count(octets.len());
             let heard = sender_of(hearing(octets, context));
             put_status(protocol, reply, heard, cause, octets, count)
@@ -298,7 +316,7 @@ pub fn put(
     identity: &[u8],
     octets: &[u8],
     context: Context,
-    sends: Send,
+    sends: Sending,
     sent: Sent,
 ) -> usize
     ensures { λ r. ⌜ r ≡ length (putAll protocol (length (now (reply .entry))) own (now (identity .entry)) (now (octets .entry)) context sends sent) ⌝ }
