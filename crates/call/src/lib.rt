@@ -46,8 +46,8 @@ pub enum Event {
 pub struct Seen {
     pub number: u8,
     pub code: u8,
-    pub value: u8,
     pub reference: Reference,
+    pub value: u8,
     pub attributes: u8,
 }
 
