@@ -31,7 +31,7 @@ use Rattle.context.specs.Talk.{flagOf}
 use Rattle.reply.specs.declared.Own.{Own}
 use Rattle.reply.specs.declared.Sender.{Sender}
 use Rattle.reply.specs.Reply.{sent, statusOf, causeOctet, copied, copyCount, hearing, putContent, putOf}
-use Rattle.reply.specs.Put.{countOf, senderOf, statusBy, statusTelling, putBy, putFrom}
+use Rattle.reply.specs.Put.{countOf, senderOf, statusBy, statusTelling, messageFrom, putBy, putFrom}
 use Rattle.reply.proofs.Copied.{copied-part}
 
 answered : (a b : Bool) (w : List ℕ) → countOf (cond a ShortBuffer (cond b (Written (length w)) OutOfRange)) ≡ length (cond a [] (cond b w []))
@@ -52,11 +52,11 @@ opposite-sent x f e = rw e
 -- `put_message`: the count is what the writer answers.
 module _ (protocol : Protocol) (d s : List ℕ) (y : Sender) (m : Message) where
   pub put-count : (w : Wrote) (n : ℕ) → w ≡ writeAnswer protocol d s (y .flag) (y .value) m → n ≡ countOf w → n ≡ length (putFrom protocol (length d) s y m)
-  unfolding writeAnswer putFrom
+  unfolding writeAnswer putFrom messageFrom
   put-count w n p q = q ∙ ap countOf p ∙ answered (ltb (length d) 255) (writable protocol s (y .flag) (y .value) m) (octetsWritten protocol s (y .flag) (y .value) m)
 
   pub put-leaves : (after : List ℕ) → after ≡ writeLeaves protocol d s (y .flag) (y .value) m → after ≡ sets d 0 (putFrom protocol (length d) s y m)
-  unfolding writeLeaves putFrom
+  unfolding writeLeaves putFrom messageFrom
   put-leaves after p = p ∙ left (ltb (length d) 255) (writable protocol s (y .flag) (y .value) m) d (octetsWritten protocol s (y .flag) (y .value) m)
 
 -- `status_telling`: the state as its code, the parameters as attributes.
@@ -73,14 +73,14 @@ module _ (protocol : Protocol) (room : ℕ) (s : List ℕ) (y : Sender) where
 
   pub immediate-from : (key : ℕ) (classmark : Classmark) (r : Reference)
       → putFrom protocol room s y (ImmediateSetup key classmark (record { start = 0; count = length s }) r) ≡ putBy protocol room y (immediateSetup key classmark s r)
-  unfolding putFrom writable lies
+  unfolding putFrom messageFrom writable lies
   immediate-from key classmark r =
       lying (leb (0 + length s) (length s)) (immediateSetup key classmark (part s 0 (length s)) r) (immediateSetup key classmark s r) (le-leb (0 + length s) (length s) (omega arith)) (ap (λ (i : List ℕ). immediateSetup key classmark i r) (take-length s))
 
   pub status-from : (zeros cause : List ℕ) (count : ℕ) → s ≡ sets zeros 0 cause → length zeros ≡ 246 → length cause ≡ 1 + count → count ≤ 245
       → (m : Message) → m ≡ statusTelling (record { start = 0; count = 1 + count }) (y .state) (y .parameters)
       → putFrom protocol room s y m ≡ putBy protocol room y (statusBy y cause)
-  unfolding putFrom writable lies statusBy
+  unfolding putFrom messageFrom writable lies statusBy
   status-from zeros cause count e z l h m p =
       let n : length s ≡ 246 = ap length e ∙ length-sets zeros 0 cause ∙ z in
       let k : length cause ≤ length zeros = omega arith in
@@ -90,11 +90,11 @@ module _ (protocol : Protocol) (room : ℕ) (s : List ℕ) (y : Sender) where
       (le-leb (0 + (1 + count)) (length s) (omega arith)) (rw t)
 
   pub setup-from : (r : Reference) → putFrom protocol room s y (Setup r) ≡ putBy protocol room y (setup r)
-  unfolding putFrom writable putBy
+  unfolding putFrom messageFrom writable putBy
   setup-from r = refl
 
   pub request-from : (r : Reference) → putFrom protocol room s y (TerminationRequest r) ≡ putBy protocol room y (terminationRequest r)
-  unfolding putFrom writable putBy
+  unfolding putFrom messageFrom writable putBy
   request-from r = refl
 
 -- What is put for the sender that a context makes is what is put in the context.

@@ -33,9 +33,12 @@ countOf OutOfRange = 0
 abbrev pub senderOf : Context → Sender
 senderOf x = record { flag = flagSent x; value = x .value; state = x .state; parameters = x .parameters }
 
+-- The message's octets, and none where it can't be written.
+unfoldable pub messageFrom : Protocol → List ℕ → Sender → Message → List ℕ
+messageFrom protocol s by message = cond (writable protocol s (by .flag) (by .value) message) (octetsWritten protocol s (by .flag) (by .value) message) []
+
 unfoldable pub putFrom : Protocol → ℕ → List ℕ → Sender → Message → List ℕ
-putFrom protocol room s by message =
-    cond (ltb room 255) [] (cond (writable protocol s (by .flag) (by .value) message) (octetsWritten protocol s (by .flag) (by .value) message) [])
+putFrom protocol room s by message = cond (ltb room 255) [] (messageFrom protocol s by message)
 
 -- The same where the message is given by its content, and what a STATUS has then.
 unfoldable pub putBy : Protocol → ℕ → Sender → Content → List ℕ
@@ -48,12 +51,6 @@ statusBy by cause = status cause (Present (callStateCode (by .state))) (Present 
 abbrev pub statusTelling : Run → State → Parameters → Message
 statusTelling cause state parameters = Status cause (Present (callStateCode state)) (Present (attributesOf parameters))
 
--- What is put where a message is put into six octets.
-unfoldable pub putSix : Protocol → List ℕ → Context → Message → List ℕ
-putSix protocol s x message =
-    cond (writable protocol s (flagSent x) (x .value) message)
-    (cond (ltb 6 (length (octetsWritten protocol s (flagSent x) (x .value) message))) [] (octetsWritten protocol s (flagSent x) (x .value) message)) []
-
 -- Octets behind the first `at`, where there is room for them, and else none.
 unfoldable pub placed : ℕ → ℕ → List ℕ → List ℕ
 placed room at octets = cond (leb (at + length octets) room) octets []
@@ -63,5 +60,5 @@ unfoldable pub pendingOf : Protocol → ℕ → ℕ → Context → Sent → Lis
 pendingOf protocol room at x k =
     let source : List ℕ = 158 ∷ [] in
     let status : List ℕ =
-    placed room at (cond (k .status) (putSix protocol source x (statusTelling (record { start = 0; count = 1 }) (k .state) (k .parameters))) []) in
-    status ++ placed room (at + length status) (cond (k .request) (putSix protocol source x (TerminationRequest (x .reference))) [])
+    placed room at (cond (k .status) (messageFrom protocol source (senderOf x) (statusTelling (record { start = 0; count = 1 }) (k .state) (k .parameters))) []) in
+    status ++ placed room (at + length status) (cond (k .request) (messageFrom protocol source (senderOf x) (TerminationRequest (x .reference))) [])

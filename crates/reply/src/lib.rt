@@ -8,7 +8,7 @@ ghost use lib.Seq.{sets};
 ghost use Rattle.octets.specs.Run.{part};
 ghost use Rattle.message.specs.Content.{immediateSetup};
 ghost use Rattle.reply.specs.Reply.{copyCount, hearing, putContent, putRow, putOf, putAll};
-ghost use Rattle.reply.specs.Put.{countOf, senderOf, statusBy, statusTelling, putBy, putFrom, putSix, placed, pendingOf};
+ghost use Rattle.reply.specs.Put.{countOf, senderOf, statusBy, statusTelling, messageFrom, putBy, putFrom, placed, pendingOf};
 use call::Sending;
 use call::Sent;
 use codes::attributes::Parameters;
@@ -257,7 +257,7 @@ fn put_own(
 }
 
 // Puts a message that is due behind the first `at` octets of the reply, where there is room for it, and says how many octets stand there then.
-// It has at most six octets, and its cause is "Response to GET STATUS" where it has one.
+// Its cause is "Response to GET STATUS" where it has one.
 fn put_due(
     protocol: Protocol,
     reply: &mut [u8],
@@ -267,21 +267,23 @@ fn put_due(
     message: Message,
 ) -> usize
     requires { ⌜ at ≤ length (now reply) ⌝ }
-    ensures { λ r. ⌜ r ≡ at + length (placed (length (now (reply .entry))) at (cond due (putSix protocol (158 ∷ []) context message) [])) ⌝ }
-    ensures { λ _. ⌜ now (reply .exit) ≡ sets (now (reply .entry)) at (placed (length (now (reply .entry))) at (cond due (putSix protocol (158 ∷ []) context message) [])) ⌝ }
+    ensures { λ r. ⌜ r ≡ at + length (placed (length (now (reply .entry))) at (cond due (messageFrom protocol (158 ∷ []) (senderOf context) message) [])) ⌝ }
+    ensures { λ _. ⌜ now (reply .exit) ≡ sets (now (reply .entry)) at (placed (length (now (reply .entry))) at (cond due (messageFrom protocol (158 ∷ []) (senderOf context) message) [])) ⌝ }
 {
     if !due {
         return at;
     }
-    let mut six = [0u8; 6];
     let cause = [158u8; 1];
-    let flag = context::expected_flag(context);
-    let wrote = writing::put(protocol, &mut six, &cause, !flag, context.value, message);
+    let sender = sender_of(context);
+    let wrote = writing::put(
+        protocol,
+        &mut reply[at..],
+        &cause,
+        sender.flag,
+        sender.value,
+        message,
+    );
     let count = written_count(wrote);
-    if reply.len() - at < count {
-        return at;
-    }
-    copy_to(reply, at, &six, 0, count);
     at + count
 }
 
