@@ -16,8 +16,8 @@ pub struct Context {
     pub timers: Timers,
     pub value: u8,
     pub reference: Reference,
-    pub talk: Talk,
     pub remembered: Remembered,
+    pub talk: Talk,
 }
 
 // Where a termination was asked from: nothing is remembered, or one of the states that it can be asked from.
