@@ -64,9 +64,9 @@ pub enum Reason {
 // What is due, settled: what a step comes to before its reply is octets. The answer is document 01's number; the reason is the number of why a message is
 // ignored, and 0 with every other answer.
 pub struct Settled {
-    pub context: Context,
     pub answer: u8,
     pub reason: u8,
+    pub context: Context,
     pub actions: u8,
     pub sends: Sending,
     pub sent: Sent,
