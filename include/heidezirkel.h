@@ -22,7 +22,7 @@
  * 13) changes nothing that was lent to it: no octet of a context, of settings, of a reply buffer or of a log. What it returns besides the answer is
  * fixed too: zeros, but for what is said at the function.
  *
- * BUFFERS. Every buffer is the caller's. The library keeps no pointer, has no memory of its own, allocates nothing, calls nothing but memcpy and never waits;
+ * BUFFERS. Every buffer is the caller's. The library keeps no pointer, has no memory of its own, allocates nothing, calls nothing and never waits;
  * a buffer is used only until the function returns, so calls over different buffers may run at the same time. A pointer is never NULL, also
  * where its length is 0, and points to at least as many octets as its length says. A buffer that a call may change (a pointer to uint8_t that is not
  * const) overlaps no other buffer of the same call.
