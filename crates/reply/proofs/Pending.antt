@@ -5,13 +5,12 @@ use mathlib.Core.List.{List, [], _∷_, _++_, append-nil, append-assoc}
 use mathlib.Core.Bool.{Bool, true, false, cond, not, _||_}
 use native.Mathlib.Omega.{arith}
 use lib.Dec.{leb, ltb}
-use native.Mathlib.Nat.{zero-add}
-use lib.ListN.{length, drop, getD, length-append, length-drop, drop-of-length-le}
-use lib.Seq.{sets, sets-eq, take-all, drop-drop, length-sets}
+use lib.ListN.{length, drop, getD, length-append}
+use lib.Seq.{sets, length-sets}
 use borrow.Author.Tests.{le-ltb, lt-ltb, leb-true, leb-false, not-true, not-false}
-use borrow.Rule.Slice.PartMut.{putMid, postOf, midOf, mid-len, put-same}
+use borrow.Rule.Slice.PartMut.{putMid, midOf, mid-len, put-same}
 use Rattle.octets.proofs.Choice.{cond-same, at-cond, never}
-use Rattle.octets.proofs.Stores.{sets-append}
+use Rattle.octets.proofs.Stores.{sets-append, part-sets}
 use Rattle.codes.specs.CallStates.{callStateCode}
 use Rattle.codes.specs.Attributes.{attributesOf}
 use Rattle.codes.specs.declared.protocol.Protocol.{Protocol}
@@ -81,14 +80,6 @@ module _ (d : List ℕ) (at : ℕ) (low : at ≤ length d) (w : List ℕ) where
       let l : length (lent d at) ≡ length d - at = mid-len at (length d) d (omega arith) in
       lt-ltb (length (lent d at)) (length w) (omega arith)
 
-  -- Over the part's start they stand behind the first `at`.
-  part-sets : at + length w ≤ length d → back d at (sets (lent d at) 0 w) ≡ sets d at w
-  part-sets h =
-      let l : lent d at ≡ drop at d = take-all (length d - at) (drop at d) (rw length-drop (omega arith)) in
-      let p : postOf at (length d - at) d ≡ [] = drop-of-length-le (drop at d) {i = length d - at} (rw length-drop (omega arith)) in
-      let k : 0 + length w ≤ length (drop at d) = rw length-drop (omega arith) in
-      rw (l, p, append-nil, sets-eq w (drop at d) 0 k, sets-eq w d at h, drop-drop, zero-add) (simp append-assoc)
-
   -- What the writer answers and leaves, where the message can be written and where it can't.
   abbrev Put : Bool → Bool → List ℕ → Type 0
   Put can short v = Stands d at v (at + countOf (cond can (cond short ShortBuffer (Written (length w))) OutOfRange)) (back d at (cond can (cond short (lent d at) (sets (lent d at) 0 w)) (lent d at)))
@@ -98,7 +89,7 @@ module _ (d : List ℕ) (at : ℕ) (low : at ≤ length d) (w : List ℕ) where
   into-part true = go (leb (at + length w) (length d)) refl
     where
       go : (t : Bool) → leb (at + length w) (length d) ≡ t → Put true (ltb (length (lent d at)) (length w)) (cond (leb (at + length w) (length d)) w [])
-      go true e = rw (short-of true e, e) (refl, part-sets (leb-true _ _ e))
+      go true e = rw (short-of true e, e) (refl, part-sets d w at (leb-true _ _ e))
       go false e = rw (short-of false e, e) (refl, put-same at (length d - at) d)
   into-part false = stands-as d at _ [] (at + 0) _ (cond-same (leb (at + length {A = ℕ} []) (length d)) []) (refl, put-same at (length d - at) d)
 

@@ -96,7 +96,7 @@ putOf protocol room own identity s x (ErrorStatus cause) =
 unfoldable pub behind : ℕ → List ℕ → List ℕ → List ℕ
 behind room first octets = cond (leb (length first + length octets) room) (first ++ octets) first
 
--- What is put where a message may be out of range: one of over six octets is none of these.
+-- What is put where a message may be out of range.
 unfoldable pub putDue : Protocol → Bool → Context → Content → List ℕ
 putDue protocol due x content = cond due (cond (fits protocol (flagSent x) (x .value) content) (sent protocol x content) []) []
 
