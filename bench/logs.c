@@ -1,5 +1,6 @@
 /* logs.c: makes the logs that the bench judges, with the twin's step and recorder: calls that we start and calls that we join or let pass, with messages of
- * every kind that a radio hears, good and faulty, expiries, and events that have no step. A fixed seed: every run has the same logs. */
+ * every kind that a radio hears, good and faulty, expiries, and events that have no step. In group calls the radio talks, stops talking, loses its channel
+ * and finds another, and what can't be sent waits. A fixed seed: every run has the same logs. */
 #include <string.h>
 #include "logs.h"
 
@@ -47,11 +48,22 @@ static void put_any(struct radio *radio, struct happening *happening, uint32_t c
         put(happening, chance(radio, 256));
 }
 
+/* The first octet of a message of the call. Where the value is awaited the cell may have another. */
+static uint8_t head_of_call(struct radio *radio)
+{
+    const struct twin_context *context = &radio->context;
+    if (radio->table == GROUP) {
+        uint8_t value = context->awaiting_value && chance(radio, 2) == 0 ? chance(radio, 8) : context->value;
+        return 128 * (context->chooser == US) + 16 * value;
+    }
+    bool flag = context->state == U0P || context->state == U1 || context->state == U2 || context->state == U5;
+    return 128 * flag + 16 * context->value + 1;
+}
+
 /* A message with this type and the call's transaction, now and then another. */
 static void hear(struct radio *radio, struct happening *happening, uint8_t type)
 {
-    bool flag = radio->context.state == U0P || radio->context.state == U1 || radio->context.state == U2 || radio->context.state == U5;
-    uint8_t head = 128 * flag + 16 * radio->context.value + 1;
+    uint8_t head = head_of_call(radio);
     if (chance(radio, 25) == 0)
         head ^= 16;
     happening->event.number = 18;
@@ -99,10 +111,12 @@ static void get_status(struct radio *radio, struct happening *happening)
     put_elements(radio, happening);
 }
 
+/* Any parameters, or all true; in a group call ORIG mostly stays what it is. */
 static void set_parameter(struct radio *radio, struct happening *happening)
 {
+    uint8_t attributes = radio->table == GROUP ? 14 + radio->context.orig : 15;
     hear(radio, happening, 0x3a);
-    put(happening, chance(radio, 3) == 0 ? chance(radio, 16) : 15);
+    put(happening, chance(radio, 3) == 0 ? chance(radio, 16) : attributes);
     put_elements(radio, happening);
 }
 
@@ -114,6 +128,23 @@ static void with_cause(struct radio *radio, struct happening *happening, uint8_t
     put(happening, count);
     put(happening, 0x90);
     put_any(radio, happening, count - 1);
+    put_elements(radio, happening);
+}
+
+static void termination(struct radio *radio, struct happening *happening)
+{
+    with_cause(radio, happening, 0x34);
+}
+
+/* In a group call the cause has four octets and no length octet; now and then it has too few. */
+static void termination_reject(struct radio *radio, struct happening *happening)
+{
+    if (radio->table != GROUP) {
+        with_cause(radio, happening, 0x36);
+        return;
+    }
+    hear(radio, happening, 0x36);
+    put_any(radio, happening, chance(radio, 8) == 0 ? 2 : 4);
     put_elements(radio, happening);
 }
 
@@ -163,7 +194,7 @@ static void in_u0(struct radio *radio, struct happening *happening, uint32_t die
     else if (die < 95)
         with_call(radio, happening, 10);
     else
-        with_cause(radio, happening, 0x34);
+        termination(radio, happening);
 }
 
 static void in_u0p(struct radio *radio, struct happening *happening, uint32_t die)
@@ -187,7 +218,7 @@ static void in_u1(struct radio *radio, struct happening *happening, uint32_t die
     else if (die < 76)
         plain(happening, 4);
     else if (die < 82)
-        with_cause(radio, happening, 0x34);
+        termination(radio, happening);
     else if (die < 90)
         get_status(radio, happening);
     else if (die < 94)
@@ -207,7 +238,7 @@ static void in_u2(struct radio *radio, struct happening *happening, uint32_t die
     else if (die < 85)
         plain(happening, 4);
     else if (die < 93)
-        with_cause(radio, happening, 0x34);
+        termination(radio, happening);
     else
         plain(happening, die < 95 ? 5 : die < 97 ? 8 : 9);
 }
@@ -215,9 +246,9 @@ static void in_u2(struct radio *radio, struct happening *happening, uint32_t die
 static void in_u5(struct radio *radio, struct happening *happening, uint32_t die)
 {
     if (die < 40)
-        with_cause(radio, happening, 0x34);
+        termination(radio, happening);
     else if (die < 65)
-        with_cause(radio, happening, 0x36);
+        termination_reject(radio, happening);
     else if (die < 75)
         get_status(radio, happening);
     else if (die < 80)
@@ -226,17 +257,25 @@ static void in_u5(struct radio *radio, struct happening *happening, uint32_t die
         plain(happening, die < 92 ? 15 : 5);
 }
 
+/* The mode in which a call is joined: a group call has three. */
+static uint32_t mode_entered(const struct radio *radio, uint32_t die)
+{
+    if (radio->table != GROUP || die < 50)
+        return 11;
+    return die < 65 ? 34 : 35;
+}
+
 static void in_u3_or_u4(struct radio *radio, struct happening *happening, uint32_t die)
 {
     bool present = radio->context.state == U3;
     if (die < 15 && present && radio->table == THIRD)
         plain(happening, 19);
     else if (die < 80)
-        plain(happening, present ? 3 : 11);
+        plain(happening, present ? 3 : mode_entered(radio, die));
     else if (die < 85)
         plain(happening, present ? 9 : 16);
     else if (die < 90)
-        with_cause(radio, happening, 0x34);
+        termination(radio, happening);
     else if (die < 95)
         get_status(radio, happening);
     else
@@ -256,16 +295,70 @@ static void in_u6(struct radio *radio, struct happening *happening, uint32_t die
     else if (die < 85)
         get_status(radio, happening);
     else if (die < 96)
-        with_cause(radio, happening, 0x34);
+        termination(radio, happening);
     else
         plain(happening, die < 98 ? 5 : 9);
+}
+
+/* What happens in the sub-states of U2: an event, or a message. */
+static const struct likely {
+    uint32_t event;
+    void (*message)(struct radio *, struct happening *);
+    uint8_t percent[6]; /* in U2sl, U2wr, U2r, U2ws, U2sr, U2nc */
+} in_sub_states[] = {
+    {4, NULL, {16, 5, 8, 5, 10, 3}},
+    {5, NULL, {2, 1, 2, 1, 1, 1}},
+    {9, NULL, {2, 1, 2, 1, 1, 1}},
+    {11, NULL, {4, 55, 3, 6, 4, 35}},
+    {12, NULL, {6, 5, 12, 6, 7, 6}},
+    {17, NULL, {1, 0, 1, 0, 0, 12}},
+    {32, NULL, {22, 0, 0, 1, 25, 1}},
+    {33, NULL, {0, 8, 30, 1, 1, 1}},
+    {34, NULL, {4, 2, 2, 52, 2, 12}},
+    {35, NULL, {2, 4, 2, 4, 5, 14}},
+    {36, NULL, {3, 1, 2, 4, 3, 2}},
+    {18, get_status, {14, 8, 15, 7, 13, 4}},
+    {18, set_parameter, {10, 4, 8, 6, 18, 2}},
+    {18, termination, {8, 4, 8, 4, 6, 4}},
+    {18, odd_message, {6, 2, 5, 2, 4, 2}},
+};
+
+static void in_sub_state(struct radio *radio, struct happening *happening, uint32_t die)
+{
+    const struct likely *likely = in_sub_states;
+    while (die >= likely->percent[radio->context.state - U2SL]) {
+        die -= likely->percent[radio->context.state - U2SL];
+        likely++;
+    }
+    if (likely->message)
+        likely->message(radio, happening);
+    else
+        plain(happening, likely->event);
 }
 
 /* Any event of the table but a message. */
 static void any_event(struct radio *radio, struct happening *happening)
 {
-    uint32_t number = 1 + chance(radio, twin_greatest_event(radio->table) - 1);
-    with_call(radio, happening, number < 18 ? number : 19);
+    uint32_t number = 1 + chance(radio, radio->table == GROUP ? 22 : radio->table == THIRD ? 18 : 17);
+    if (number >= 18)
+        number = radio->table == GROUP ? number + 14 : 19;
+    with_call(radio, happening, number);
+}
+
+/* In a group call, whatever its state: the cell asks a radio that may have to answer later, or sets its parameters; and the user takes back what still
+ * waits. */
+static bool at_any_time(struct radio *radio, struct happening *happening)
+{
+    uint32_t die = chance(radio, 48);
+    if (die < 3)
+        get_status(radio, happening);
+    else if (die < 5)
+        set_parameter(radio, happening);
+    else if (die < 14 && radio->context.pending_termination)
+        plain(happening, 36);
+    else
+        return false;
+    return true;
 }
 
 static void choose(struct radio *radio, struct happening *happening)
@@ -275,6 +368,8 @@ static void choose(struct radio *radio, struct happening *happening)
         any_event(radio, happening);
         return;
     }
+    if (radio->table == GROUP && at_any_time(radio, happening))
+        return;
     switch (radio->context.state) {
     case U0:
         in_u0(radio, happening, die);
@@ -294,8 +389,12 @@ static void choose(struct radio *radio, struct happening *happening)
     case U6:
         in_u6(radio, happening, die);
         break;
-    default:
+    case U3:
+    case U4:
         in_u3_or_u4(radio, happening, die);
+        break;
+    default:
+        in_sub_state(radio, happening, die);
     }
 }
 
@@ -315,23 +414,12 @@ static void set_time(struct radio *radio, struct happening *happening)
     happening->delta = expires ? left : chance(radio, left / 2 + 1);
 }
 
-static void pack(const struct twin_context *context, uint8_t octets[16])
-{
-    memset(octets, 0, 16);
-    octets[0] = context->state;
-    octets[1] = twin_parameters(context);
-    octets[2] = 16 * context->pres + 8 * context->mm_est + 4 * context->term + 2 * context->conn_req + context->no_channel;
-    octets[3] = context->value;
-    memcpy(octets + 4, context->reference, 4);
-    octets[8] = context->from;
-}
-
 static void keep_step(struct logs *logs, const struct radio *radio, const struct happening *happening)
 {
     if (logs->step_count == STEPS)
         return;
     struct step_case *kept = &logs->steps[logs->step_count++];
-    pack(&radio->context, kept->context);
+    twin_write_context(&radio->context, kept->context);
     kept->event = happening->event;
     kept->length = happening->length;
     memcpy(kept->message, happening->message, happening->length);

@@ -20,12 +20,12 @@ static void on_twin(void)
     kept += twin_judge(bench_settings, subject->large.bytes, subject->large.used).entry;
 }
 
-size_t show_stack(const struct logs *logs)
+size_t show_stack(const char *prefix, const struct logs *logs)
 {
     subject = logs;
     size_t nothing = painted(on_nothing);
     size_t ours = painted(on_ours) - nothing;
     size_t twin = painted(on_twin) - nothing;
-    printf("stack of a judgement: ours %zu bytes, twin %zu bytes\n", ours, twin);
+    printf("%sstack of a judgement: ours %zu bytes, twin %zu bytes\n", prefix, ours, twin);
     return ours;
 }

@@ -22,7 +22,7 @@
  * 13) changes nothing that was lent to it: no octet of a context, of settings, of a reply buffer or of a log. What it returns besides the answer is
  * fixed too: zeros, but for what is said at the function.
  *
- * BUFFERS. Every buffer is the caller's. The library keeps no pointer, has no memory of its own, allocates nothing, calls nothing but memcpy and never waits;
+ * BUFFERS. Every buffer is the caller's. The library keeps no pointer, has no memory of its own, allocates nothing, calls nothing and never waits;
  * a buffer is used only until the function returns, so calls over different buffers may run at the same time. A pointer is never NULL, also
  * where its length is 0, and points to at least as many octets as its length says. A buffer that a call may change (a pointer to uint8_t that is not
  * const) overlaps no other buffer of the same call.
@@ -202,7 +202,7 @@ enum { /* what happens: the numbers of events */
     HEIDEZIRKEL_EVENT_MM_FAILED = 7,          /* lower layers: the MM connection could not be established */
     HEIDEZIRKEL_EVENT_RADIO_LINK_FAILURE = 8, /* lower layers */
     HEIDEZIRKEL_EVENT_ABORT_OR_RELEASE = 9,   /* lower layers: the network's abort or release was detected */
-    HEIDEZIRKEL_EVENT_NOTIFIED = 10,          /* lower layers: a broadcast call exists; carries value and reference */
+    HEIDEZIRKEL_EVENT_NOTIFIED = 10,          /* lower layers: a broadcast call exists, for the group step a group call; carries value and reference */
     HEIDEZIRKEL_EVENT_GROUP_RECEIVE = 11,     /* lower layers: group receive mode is entered */
     HEIDEZIRKEL_EVENT_NO_CHANNEL = 12,        /* lower layers: no channel */
     HEIDEZIRKEL_EVENT_CHANNEL_AVAILABLE = 13, /* lower layers: a channel is available */
@@ -235,7 +235,8 @@ enum { /* why a message was ignored: the reason beside answer 1. Where several a
     HEIDEZIRKEL_IGNORED_OTHER_PROTOCOL = 3, /* its protocol discriminator is not 1, that of broadcast call control; in a group call not 0 */
     HEIDEZIRKEL_IGNORED_TRANSACTION = 4,    /* its transaction value or flag is not that of this call */
     HEIDEZIRKEL_IGNORED_IDENTITY = 5,       /* received in unacknowledged mode, and it names another radio's identity */
-    HEIDEZIRKEL_IGNORED_COMM_FALSE = 6      /* it asks for a STATUS, or would be reported with one, and the parameter COMM is false */
+    HEIDEZIRKEL_IGNORED_COMM_FALSE = 6      /* it would be reported with a STATUS, or in a broadcast call asks for one, and the parameter COMM is false; in a
+                                             * group call what is asked for waits: heidezirkel_group_step */
 };
 
 /* An event and its data. What an event does not carry has no effect and may be anything; zero is a good habit. */

@@ -15,8 +15,6 @@ use Rattle.fitness.specs.Fitness.{Fitness, consistentBy}
 use Rattle.version.specs.declared.Table.{Table}
 use Rattle.version.specs.Version.{greatestActions}
 use Rattle.fitness.specs.Tables.{fitnessOf}
-use Rattle.transitions.specs.declared.Send.{Send}
-use Rattle.transitions.specs.declared.Send.the-variants.{Nothing}
 use Rattle.transitions.specs.declared.Decision.{Decision}
 use Rattle.transitions.specs.declared.Decision.the-variants.{Take, NoStep, Ignore, Report, TellStatus, SetParameters}
 use Rattle.transitions.specs.Table.{Row, stepTable}
@@ -27,9 +25,11 @@ use Rattle.call.specs.declared.Due.the-variants.{Steps, Ignored, Reporte
 use Rattle.call.specs.declared.Event.{Event}
 use Rattle.call.specs.declared.Reason.{Reason}
 use Rattle.call.specs.declared.Seen.{Seen}
+use Rattle.call.specs.declared.Sending.{Sending}
+use Rattle.call.specs.declared.Sending.the-variants.{OfRow}
 use Rattle.call.specs.declared.Settled.{Settled}
 use Rattle.call.specs.Events.{seenOf}
-use Rattle.call.specs.Step.{took, ignored, noStep, reportedWith, statusTold, parametersSet, carriedOut, stepBy}
+use Rattle.call.specs.Step.{silent, took, ignored, noStep, reportedWith, statusTold, parametersSet, carriedOut, stepBy}
 use Rattle.call.specs.Talk.{unsent}
 use Rattle.call.specs.Due.{settledBy, settled}
 use Rattle.call.proofs.Reasons.{numbered}
@@ -38,14 +38,14 @@ pub record Right (most : ℕ) (x : Context) (r : Settled) : Type 0 where
   pub numbered : r .answer ≤ 3
   pub kept : (r .answer ≡ 0 → ⊥) → r .context ≡ x
   pub still : (r .answer ≡ 0 → ⊥) → r .actions ≡ 0
-  pub silent : (r .answer ≡ 0 → ⊥) → (r .answer ≡ 2 → ⊥) → r .sends ≡ Nothing
+  pub silent : (r .answer ≡ 0 → ⊥) → (r .answer ≡ 2 → ⊥) → r .sends ≡ silent
   pub unsent : (r .answer ≡ 0 → ⊥) → r .sent ≡ unsent x
   pub few : r .actions ≤ most
   pub told : r .answer ≡ 1 → (1 ≤ r .reason) × (r .reason ≤ 6)
   pub untold : (r .answer ≡ 1 → ⊥) → r .reason ≡ 0
 
 module _ (fitness : Fitness) (most : ℕ) (x : Context) where
-  taken-right : (y : Context) (actions : ℕ) (sends : Send) → actions ≤ most → Right most x (took y actions sends)
+  taken-right : (y : Context) (actions : ℕ) (sends : Sending) → actions ≤ most → Right most x (took y actions sends)
   taken-right y actions sends few = record {
     numbered = omega arith;
     kept = λ n. elim (n refl) [ ];
@@ -101,13 +101,13 @@ module _ (fitness : Fitness) (most : ℕ) (x : Context) where
 
   carried-right : (d : Decision) (e : Seen) → OfTaken (λ d. leb (d .actions) most ≡ true) d → Right most x (carriedOut fitness x d e)
   unfolding carriedOut statusTold parametersSet
-  carried-right (Take d) e f = taken-right _ (d .actions) (d .sends) (leb-true (d .actions) most f)
+  carried-right (Take d) e f = taken-right _ (d .actions) (OfRow (d .sends)) (leb-true (d .actions) most f)
   carried-right NoStep e f = no-step-right
   carried-right Ignore e f = ignored-right _
   carried-right (Report cause) e f = reported-right cause
   carried-right TellStatus e f = at-cond (Right most x) (x .parameters .comm) _ _ (λ q. taken-right x 0 _ (omega arith)) (λ q. ignored-right _)
   carried-right SetParameters e f =
-      at-cond (Right most x) (consistentBy fitness (x .state) (parametersOf (e .attributes))) _ _ (λ q. taken-right _ 0 Nothing (omega arith)) (λ q. reported-right 98)
+      at-cond (Right most x) (consistentBy fitness (x .state) (parametersOf (e .attributes))) _ _ (λ q. taken-right _ 0 silent (omega arith)) (λ q. reported-right 98)
 
   right-by : (table : List Row) → Sound fitness most table → (event : Event) → Right most x (stepBy fitness table x event)
   unfolding stepBy

@@ -38,11 +38,11 @@ use Rattle.call.specs.declared.Event.the-variants.{Join, Notified, PresE
 use Rattle.call.specs.declared.Seen.{Seen}
 use Rattle.call.specs.Events.{bare, seenOf}
 use Rattle.call.specs.Talk.{noted, adopted, originating, awaitingAfter, sentIn, flushed}
-use Rattle.call.specs.Step.{parametersAfter, valueAfter, referenceAfter, afterwards, took, noStep, carriedOut, stepBy, stepValue}
+use Rattle.call.specs.Step.{parametersAfter, valueAfter, referenceAfter, afterwards, silent, took, noStep, carriedOut, stepBy, stepValue}
 
 -- Notified: the invitation's value and reference, and T_pres alone runs.
 pub notified : (value : ℕ) (reference : Reference) → stepValue Third cleared (Notified value reference)
-    ≡ took (record { state = U3; parameters = startRow U3; timers = alone (timerNumber Pres); value = value; reference = reference; remembered = Remembered.Nothing; talk = noTalk }) 1 Nothing
+    ≡ took (record { state = U3; parameters = startRow U3; timers = alone (timerNumber Pres); value = value; reference = reference; remembered = Remembered.Nothing; talk = noTalk }) 1 silent
 unfolding stepBy seenOf decidedBy decidedIn happenedIn stepTable protocolOf carriedOut afterwards parametersAfter entering startRow setRow withTimer valueAfter referenceAfter cleared alone adopted originating noted awaitingAfter flushed sentIn
 notified value reference = refl
 
@@ -153,13 +153,13 @@ module _ (x : Context) (fit : fitOf Third x ≡ true) (invited : x .state ≡ U3
   runs-there = and-right (not (x .timers .nochannel)) _ behind-conn-req
 
   -- "at expiry the context is cleared and U0 entered, with action 0"
-  pub forgotten : stepValue Third x PresExpired ≡ took cleared 0 Nothing
+  pub forgotten : stepValue Third x PresExpired ≡ took cleared 0 silent
   unfolding carriedOut afterwards flushed sentIn cleared adopted
   forgotten = step-in Third x U3 PresExpired 19 seen-expiry (λ e. omega (arith, e)) invited (Take ends) (row-of-19 x ∙ rw runs-there)
 
   -- Joined: T_conn req alone runs, and the rest of the call stays.
   pub joined : stepValue Third x Join
-      ≡ took (record { state = U4; parameters = startRow U4; timers = alone (timerNumber ConnReq); value = x .value; reference = x .reference; remembered = x .remembered; talk = noTalk }) 4 Nothing
+      ≡ took (record { state = U4; parameters = startRow U4; timers = alone (timerNumber ConnReq); value = x .value; reference = x .reference; remembered = x .remembered; talk = noTalk }) 4 silent
   unfolding carriedOut afterwards parametersAfter entering startRow setRow withTimer valueAfter referenceAfter alone adopted originating noted awaitingAfter flushed sentIn
   joined = step-in Third x U3 Join 3 seen-join (λ e. omega (arith, e)) invited (Take joins) (row-of-3 x) ∙ rw (invited, fit-silent Third x fit broadcast, no-mm-est, no-term, no-no-channel)
 

@@ -40,7 +40,7 @@ use Rattle.call.specs.declared.Settled.{Settled}
 use Rattle.call.specs.declared.Seen.{Seen}
 use Rattle.call.specs.Events.{noReference, heard, seenMessage, seenOf}
 use Rattle.call.specs.Talk.{noted, adopted, originating, awaitingAfter}
-use Rattle.call.specs.Step.{parametersAfter, valueAfter, referenceAfter, afterwards, took, carriedOut, stepBy, stepValue}
+use Rattle.call.specs.Step.{parametersAfter, valueAfter, referenceAfter, afterwards, silent, took, carriedOut, stepBy, stepValue}
 
 -- The tables in which it does.
 abbrev pub leadsBack : Table → Bool
@@ -67,7 +67,7 @@ rejects value = heard TERMINATION-REJECT value noReference 0
 
 -- By every such table: the row is taken, after a value that was awaited has been adopted, and what was pending is sent.
 pub returns : (table : Table) (x : Context) → leadsBack table ≡ true → x .state ≡ State.U5 → (mode value : ℕ) (cause : Run)
-    → stepValue table x (Received mode value (TerminationReject cause)) ≡ took (afterwards (adopted x (rejects value)) (back-there (x .remembered)) (rejects value)) 1 Send.Nothing
+    → stepValue table x (Received mode value (TerminationReject cause)) ≡ took (afterwards (adopted x (rejects value)) (back-there (x .remembered)) (rejects value)) 1 silent
 unfolding stepBy seenOf seenMessage carriedOut
 returns table x leads waiting mode value cause =
     ap (λ (d : Decision). carriedOut (fitnessOf table) x d (rejects value))
@@ -110,10 +110,10 @@ module _ (table : Table) (leads : leadsBack table ≡ true) (broadcast : protoco
   no-pres : x .timers .pres ≡ false
   no-pres = not-true _ (and-right (not (x .timers .nochannel)) _ (and-right (not (x .timers .connreq)) _ others-fit))
 
-  pub returns-to-u1 : x .remembered ≡ Remembered.U1 → rejection ≡ took (returned State.U1) 1 Send.Nothing
+  pub returns-to-u1 : x .remembered ≡ Remembered.U1 → rejection ≡ took (returned State.U1) 1 silent
   unfolding afterwards parametersAfter entering startRow setRow withTimer valueAfter referenceAfter returning adopted originating noted awaitingAfter
   returns-to-u1 e = returns table x leads waiting mode value cause ∙ rw (waiting, e, fit-silent table x fit broadcast, no-mm-est, no-conn-req, no-no-channel, no-pres)
 
-  pub returns-to-u2 : x .remembered ≡ Remembered.U2 → rejection ≡ took (returned State.U2) 1 Send.Nothing
+  pub returns-to-u2 : x .remembered ≡ Remembered.U2 → rejection ≡ took (returned State.U2) 1 silent
   unfolding afterwards parametersAfter entering startRow setRow withTimer valueAfter referenceAfter returning adopted originating noted awaitingAfter
   returns-to-u2 e = returns table x leads waiting mode value cause ∙ rw (waiting, e, fit-silent table x fit broadcast, no-mm-est, no-conn-req, no-no-channel, no-pres)

@@ -13,7 +13,6 @@ use Rattle.context.specs.Context.{entering, cleared}
 use Rattle.fitness.specs.Fitness.{Fitness, consistentBy}
 use Rattle.version.specs.declared.Table.{Table}
 use Rattle.fitness.specs.Tables.{fitnessOf}
-use Rattle.transitions.specs.declared.Send.{Send}
 use Rattle.transitions.specs.declared.Send.the-variants as Send
 use Rattle.transitions.specs.declared.Stores.{Stores}
 use Rattle.transitions.specs.declared.Stores.the-variants.{Nothing, ValueAndReference, ItsReference, ItsReferenceAndOriginator}
@@ -25,6 +24,8 @@ use Rattle.call.specs.declared.Event.{Event}
 use Rattle.call.specs.declared.Reason.{Reason}
 use Rattle.call.specs.declared.Reason.the-variants.{NoCall, CommFalse}
 use Rattle.call.specs.declared.Seen.{Seen}
+use Rattle.call.specs.declared.Sending.{Sending}
+use Rattle.call.specs.declared.Sending.the-variants.{OfRow, Status, ErrorStatus}
 use Rattle.call.specs.declared.Settled.{Settled}
 use Rattle.call.specs.Events.{seenOf}
 use Rattle.call.specs.Reasons.{reasonNumber}
@@ -62,25 +63,29 @@ afterwards x d e =
       talk = awaitingAfter (x .state) (d .next) p (noted (d .note) (x .talk));
     })
 
+-- Nothing is sent.
+abbrev pub silent : Sending
+silent = OfRow Send.Nothing
+
 -- Answer 0: taken. What was pending is sent as soon as it can be.
-abbrev pub took : Context → ℕ → Send → Settled
+abbrev pub took : Context → ℕ → Sending → Settled
 took x actions sends = record { answer = 0; reason = 0; context = flushed x; actions = actions; sends = sends; sent = sentIn x }
 
 -- Answer 1: message ignored, for this reason.
 unfoldable pub ignored : Reason → Context → Settled
-ignored reason x = record { answer = 1; reason = reasonNumber reason; context = x; actions = 0; sends = Send.Nothing; sent = unsent x }
+ignored reason x = record { answer = 1; reason = reasonNumber reason; context = x; actions = 0; sends = silent; sent = unsent x }
 
 -- Answer 3: event has no step here.
 unfoldable pub noStep : Context → Settled
-noStep x = record { answer = 3; reason = 0; context = x; actions = 0; sends = Send.Nothing; sent = unsent x }
+noStep x = record { answer = 3; reason = 0; context = x; actions = 0; sends = silent; sent = unsent x }
 
 -- "Reported" means answer 2 and a STATUS if COMM was true, else answer 1: COMM false.
 unfoldable pub reportedWith : ℕ → Context → Settled
-reportedWith cause x = cond (x .parameters .comm) (record { answer = 2; reason = 0; context = x; actions = 0; sends = Send.ErrorStatus cause; sent = unsent x }) (ignored CommFalse x)
+reportedWith cause x = cond (x .parameters .comm) (record { answer = 2; reason = 0; context = x; actions = 0; sends = ErrorStatus cause; sent = unsent x }) (ignored CommFalse x)
 
 -- GET STATUS: with COMM true answer 0 and a STATUS with cause 30, else ignored: COMM false.
 unfoldable pub statusTold : Context → Settled
-statusTold x = cond (x .parameters .comm) (took x 0 (Send.Status 30)) (ignored CommFalse x)
+statusTold x = cond (x .parameters .comm) (took x 0 (Status 30)) (ignored CommFalse x)
 
 -- The context with other parameters.
 abbrev pub withParameters : Parameters → Context → Context
@@ -92,11 +97,11 @@ withParameters p x =
 unfoldable pub parametersSet : Fitness → ℕ → (x y : Context) → Settled
 parametersSet fitness attributes x y =
     let p : Parameters = parametersOf attributes in
-    cond (consistentBy fitness (x .state) p) (took (withParameters p y) 0 Send.Nothing) (reportedWith 98 x)
+    cond (consistentBy fitness (x .state) p) (took (withParameters p y) 0 silent) (reportedWith 98 x)
 
 -- What the table's decision brings about. In U0 it ignores a message: no call.
 unfoldable pub carriedOut : Fitness → Context → Decision → Seen → Settled
-carriedOut fitness x (Take d) e = took (afterwards (adopted x e) d e) (d .actions) (d .sends)
+carriedOut fitness x (Take d) e = took (afterwards (adopted x e) d e) (d .actions) (OfRow (d .sends))
 carriedOut fitness x NoStep e = noStep x
 carriedOut fitness x Ignore e = ignored NoCall x
 carriedOut fitness x (Report cause) e = reportedWith cause x

@@ -46,8 +46,8 @@ pub enum Event {
 pub struct Seen {
     pub number: u8,
     pub code: u8,
-    pub value: u8,
     pub reference: Reference,
+    pub value: u8,
     pub attributes: u8,
 }
 
@@ -68,8 +68,18 @@ pub struct Settled {
     pub reason: u8,
     pub context: Context,
     pub actions: u8,
-    pub sends: Send,
+    pub sends: Sending,
     pub sent: Sent,
+}
+
+// What the step itself sends.
+pub enum Sending {
+    // What its row sends.
+    OfRow(Send),
+    // A STATUS with this cause.
+    Status(u8),
+    // A STATUS with this cause and, if it fits, a copy of the message received.
+    ErrorStatus(u8),
 }
 
 // What was pending in a group call and is sent now, behind what the step itself sends: a STATUS that tells this state and these parameters, then a TERMINATION REQUEST.

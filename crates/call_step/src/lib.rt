@@ -2,6 +2,7 @@
 ghost use mathlib.Core.Path.{_≡_};
 ghost use Rattle.fitness.specs.Tables.{fitnessOf};
 ghost use Rattle.transitions.specs.Table.{timersAfter, rememberedAfter};
+ghost use Rattle.call.specs.declared.Sending.the-variants.{OfRow};
 ghost use Rattle.call.specs.Talk.{noted, adopted, originating, awaitingAfter, unsent};
 ghost use Rattle.call.specs.Due.{settled};
 ghost use Rattle.call.specs.Step.{parametersAfter, valueAfter, referenceAfter, afterwards, took, noStep, ignored, reportedWith, statusTold, withParameters, parametersSet, carriedOut, stepValue};
@@ -9,6 +10,7 @@ use call::Due;
 use call::Event;
 use call::Reason;
 use call::Seen;
+use call::Sending;
 use call::Sent;
 use call::Settled;
 use codes::attributes::Parameters;
@@ -24,6 +26,9 @@ use transitions::Send;
 use transitions::Stores;
 use transitions::Taken;
 use version::Table;
+
+// Nothing is sent.
+const SILENT: Sending = Sending::OfRow(Send::Nothing);
 
 // Entering a state sets its row; a step that stays in its state keeps the parameters.
 fn parameters_after(from: State, before: Parameters, next: State) -> Parameters
@@ -102,8 +107,7 @@ fn talk_after(context: Context, taken: Taken, parameters: Parameters) -> Talk
     let before = context.talk;
     let next = taken.next;
     let note = taken.note;
-    let told = talk::noted(note, before);
-    talk::awaiting_after(from, next, parameters, told)
+    talk::kept_after(from, next, note, parameters, before)
 }
 
 // The context after a row of the table: entering U0 clears.
@@ -140,9 +144,21 @@ fn afterwards(context: Context, taken: Taken, seen: Seen) -> Context
 }
 
 // What is taken. What was pending is sent as soon as it can be.
-fn took(context: Context, actions: u8, sends: Send) -> Settled
+fn took(context: Context, actions: u8, sends: Sending) -> Settled
     ensures { λ r. ⌜ r ≡ took context actions sends ⌝ }
 {
+    let kept = context.talk;
+    if !(kept.termination | kept.status) {
+        let sent = unsent(context);
+        return Settled {
+            context,
+            answer: 0,
+            reason: 0,
+            actions,
+            sends,
+            sent,
+        };
+    }
     let sent = talk::sent_in(context);
     let after = talk::flushed(context);
     Settled {
@@ -179,7 +195,7 @@ fn refuse(context: Context) -> Settled
         reason: 0,
         context,
         actions: 0,
-        sends: Send::Nothing,
+        sends: SILENT,
         sent,
     }
 }
@@ -195,7 +211,7 @@ fn ignore(context: Context, reason: Reason) -> Settled
         reason: number,
         context,
         actions: 0,
-        sends: Send::Nothing,
+        sends: SILENT,
         sent,
     }
 }
@@ -212,7 +228,7 @@ fn report(context: Context, cause: u8) -> Settled
             reason: 0,
             context,
             actions: 0,
-            sends: Send::ErrorStatus(cause),
+            sends: Sending::ErrorStatus(cause),
             sent,
         };
     }
@@ -225,7 +241,7 @@ fn tell_status(context: Context) -> Settled
 {
     let told = context.parameters;
     if told.comm {
-        return took(context, 0, Send::Status(30));
+        return took(context, 0, Sending::Status(30));
     }
     ignore(context, Reason::CommFalse)
 }
@@ -258,19 +274,19 @@ fn set_parameters(table: Table, attributes: u8, context: Context, taking: Contex
     let parameters = codes::attributes::parameters_of(attributes);
     if fitness::is_consistent(table, state, parameters) {
         let set = with_parameters(parameters, taking);
-        return took(set, 0, Send::Nothing);
+        return took(set, 0, SILENT);
     }
     report(context, 98)
 }
 
 // A row is taken.
 fn take_row(context: Context, taken: Taken, seen: Seen) -> Settled
-    ensures { λ r. ⌜ r ≡ took (afterwards (adopted context seen) taken seen) (taken .actions) (taken .sends) ⌝ }
+    ensures { λ r. ⌜ r ≡ took (afterwards (adopted context seen) taken seen) (taken .actions) (OfRow (taken .sends)) ⌝ }
 {
     let sends = taken.sends;
     let taking = talk::adopted(context, seen);
     let after = afterwards(taking, taken, seen);
-    took(after, taken.actions, sends)
+    took(after, taken.actions, Sending::OfRow(sends))
 }
 
 // What the table's decision brings about.

@@ -8,7 +8,9 @@ use lib.ListN.{getD}
 use borrow.Author.Tests.{eqb-true}
 use Rattle.codes.specs.declared.state.State.{State}
 use Rattle.codes.specs.declared.state.State.the-variants.{U0, U0p, U1, U2, U3, U4, U5, U6, U2sl, U2wr, U2r, U2ws, U2sr, U2nc}
+use Rattle.codes.specs.declared.attributes.Parameters.{Parameters}
 use Rattle.context.specs.States.{numberOf, same}
+use Rattle.context.specs.Context.{startRow, setRow, entering}
 
 -- Fourteen states.
 pub state-below : (s : State) → numberOf s < 14
@@ -24,3 +26,8 @@ at-number = elim [ U0 ↦ refl | U0p ↦ refl | U1 ↦ refl | U2 ↦ refl | U3 �
 -- States of the same number are the same.
 pub same-state : (a b : State) → same a b ≡ true → a ≡ b
 same-state a b e = sym (at-number a) ∙ ap stateAt (eqb-true (numberOf a) (numberOf b) e) ∙ at-number b
+
+-- The states before U2sl, those of a broadcast call, set all four parameters.
+pub sets-all : (s : State) (p : Parameters) → numberOf s < 8 → startRow s ≡ entering s p
+unfolding entering startRow setRow
+sets-all = elim [ U0 ↦ (λ p h. refl) | U0p ↦ (λ p h. refl) | U1 ↦ (λ p h. refl) | U2 ↦ (λ p h. refl) | U3 ↦ (λ p h. refl) | U4 ↦ (λ p h. refl) | U5 ↦ (λ p h. refl) | U6 ↦ (λ p h. refl) | U2sl ↦ (λ p h. let z : ⊥ = omega arith in elim z [ ]) | U2wr ↦ (λ p h. let z : ⊥ = omega arith in elim z [ ]) | U2r ↦ (λ p h. let z : ⊥ = omega arith in elim z [ ]) | U2ws ↦ (λ p h. let z : ⊥ = omega arith in elim z [ ]) | U2sr ↦ (λ p h. let z : ⊥ = omega arith in elim z [ ]) | U2nc ↦ (λ p h. let z : ⊥ = omega arith in elim z [ ]) ]

@@ -84,6 +84,9 @@ pub const SET_ROWS: [[bool; 4]; 14] = [
     [false, true, true, true],
 ];
 
+// U2sl, the first sub-state of U2, by its number.
+const U2SL: usize = 8;
+
 impl Context {
     // U0, parameters false, no timer, value 0, reference zero, nothing remembered, nothing of a group call.
     pub fn cleared() -> Context
@@ -236,11 +239,15 @@ fn set_or_kept(sets: Parameters, row: Parameters, before: Parameters) -> Paramet
     }
 }
 
-// The parameters where a state is entered, by what they were before.
+// The parameters where a state is entered, by what they were before. The states of a broadcast call set all four.
 pub fn entering(state: State, before: Parameters) -> Parameters
     ensures { λ r. ⌜ r ≡ entering state before ⌝ }
 {
     let row = start_row(state);
+    let number = state_number(state);
+    if number < U2SL {
+        return row;
+    }
     let sets = set_row(state);
     set_or_kept(sets, row, before)
 }

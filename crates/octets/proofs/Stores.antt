@@ -1,11 +1,13 @@
 -- Laws of a run of stores, `sets`: two runs one behind the other, a loop that copies, a store into a lent part.
 use Prim.Native.Nat.{ℕ, zero, suc, _+_, _-_, _≤_, _<_}
 use mathlib.Core.Path.{_≡_, refl, sym, ap, _∙_}
-use mathlib.Core.List.{List, [], _∷_, _++_}
+use mathlib.Core.List.{List, [], _∷_, _++_, append-nil, append-assoc}
 use native.Mathlib.Omega.{arith}
+use native.Mathlib.Nat.{zero-add}
 use native.Mathlib.Numerals.{add-one, add-two, add-three}
-use lib.ListN.{length, getD, take, drop, set, length-drop}
-use lib.Seq.{sets, sets-eq, take-suc, take-at, getD-drop, length-take-le}
+use lib.ListN.{length, getD, take, drop, set, length-drop, drop-of-length-le}
+use lib.Seq.{sets, sets-eq, take-all, take-suc, take-at, getD-drop, drop-drop, length-take-le}
+use borrow.Rule.Slice.PartMut.{putMid, postOf, midOf}
 use Rattle.octets.specs.Run.{part}
 
 -- Two runs, one behind the other, are one.
@@ -36,6 +38,17 @@ pub over-start : (d xs : List ℕ) → length xs ≤ length d → take (length x
 over-start d xs h =
     let k : 0 + length xs ≤ length d = omega arith in
     ap (take (length xs)) (sets-eq xs d 0 k) ∙ take-at xs (drop (0 + length xs) d) (length xs) refl
+
+-- The part of a buffer that begins at a place, and is lent to its end.
+pub lent-part : (d : List ℕ) (at : ℕ) → midOf at (length d - at) d ≡ drop at d
+lent-part d at = take-all (length d - at) (drop at d) (rw length-drop (omega arith))
+
+-- Storing at the start of that part is storing at the place.
+pub part-sets : (d w : List ℕ) (at : ℕ) → at + length w ≤ length d → putMid at (length d - at) d (sets (midOf at (length d - at) d) 0 w) ≡ sets d at w
+part-sets d w at h =
+    let p : postOf at (length d - at) d ≡ [] = drop-of-length-le (drop at d) {i = length d - at} (rw length-drop (omega arith)) in
+    let k : 0 + length w ≤ length (drop at d) = rw length-drop (omega arith) in
+    rw (lent-part d at, p, append-nil, sets-eq w (drop at d) 0 k, sets-eq w d at h, drop-drop, zero-add) (simp append-assoc)
 
 -- A turn of a loop that copies, and its end.
 copy-more : (d : List ℕ) (at : ℕ) (s : List ℕ) (start j : ℕ) → start + j < length s

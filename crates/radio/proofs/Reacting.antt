@@ -26,14 +26,14 @@ use Rattle.call.specs.Due.{settledBy, settled}
 use Rattle.transitions.specs.declared.Decision.{Decision}
 use Rattle.transitions.specs.declared.Decision.the-variants.{Take, NoStep, Ignore, Report, TellStatus, SetParameters}
 use Rattle.transitions.specs.Table.{stepTable}
-use Rattle.transitions.proofs.Sound.{isPlain, rows-sound}
-use Rattle.transitions.proofs.Decided.{OfTaken, Plain, decided-plain, event-plain}
+use Rattle.transitions.proofs.Sound.{rows-sound}
+use Rattle.transitions.proofs.Decided.{Plain, event-plain}
 use Rattle.call.specs.Events.{bare, carrying, seenOf}
 use Rattle.call.proofs.Kept.{DueFit, received-value, settled-fit}
 use Rattle.reply.specs.declared.Own.{Own}
 use Rattle.codes.specs.declared.protocol.Protocol.{Protocol}
 use Rattle.reply.specs.Reply.{replyOf, putAll}
-use Rattle.reply.proofs.Fits.{Orderly, plain-orderly, put-is-reply}
+use Rattle.reply.proofs.Fits.{Orderly, put-is-reply}
 use Rattle.received.specs.Due.{dueOf}
 use Rattle.received.proofs.Rules.{fits-small, every-due}
 use Rattle.step_arguments.specs.Arguments.{outOfRange}
@@ -96,24 +96,23 @@ module _ (table : Table) where
       unfolding reportedWith ignored
       reported-ordered cause = at-cond Ordered (x .parameters .comm) _ _ (λ e. (small, refl, refl)) (λ e. tt)
 
-      carried-ordered : (d : Decision) (e : Seen) → OfTaken (λ d. isPlain (d .sends) ≡ true) d → Ordered (carriedOut (fitnessOf table) x d e)
+      carried-ordered : (d : Decision) (e : Seen) → Ordered (carriedOut (fitnessOf table) x d e)
       unfolding carriedOut noStep ignored statusTold parametersSet
-      carried-ordered (Take d) e p = plain-orderly s _ _ (d .sends) p
-      carried-ordered NoStep e p = tt
-      carried-ordered Ignore e p = tt
-      carried-ordered (Report cause) e p = reported-ordered cause
-      carried-ordered TellStatus e p = at-cond Ordered (x .parameters .comm) _ _ (λ q. tt) (λ q. tt)
-      carried-ordered SetParameters e p = at-cond Ordered (consistent table (x .state) (parametersOf (e .attributes))) _ _ (λ q. tt) (λ q. reported-ordered 98)
+      carried-ordered (Take d) e = tt
+      carried-ordered NoStep e = tt
+      carried-ordered Ignore e = tt
+      carried-ordered (Report cause) e = reported-ordered cause
+      carried-ordered TellStatus e = at-cond Ordered (x .parameters .comm) _ _ (λ q. tt) (λ q. tt)
+      carried-ordered SetParameters e = at-cond Ordered (consistent table (x .state) (parametersOf (e .attributes))) _ _ (λ q. tt) (λ q. reported-ordered 98)
 
       step-ordered : (event : Event) → Ordered (settled table x (Steps event))
       unfolding settledBy stepBy
-      step-ordered event =
-          carried-ordered _ (seenOf event) (decided-plain (fitnessOf table) (greatestActions table) (stepTable table) (rows-sound table) x (seenOf event .number) (seenOf event .code))
+      step-ordered event = carried-ordered _ (seenOf event)
 
     -- An event that is no message is not reported.
     plain-ordered : (d : Decision) (e : Seen) → Plain d → Ordered (carriedOut (fitnessOf table) x d e)
     unfolding carriedOut noStep
-    plain-ordered (Take d) e p = plain-orderly s _ _ (d .sends) p
+    plain-ordered (Take d) e p = tt
     plain-ordered NoStep e p = tt
     plain-ordered Ignore e p = absurd p
     plain-ordered (Report cause) e p = absurd p

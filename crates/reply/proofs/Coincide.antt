@@ -8,11 +8,11 @@ use Rattle.octets.proofs.Coincide.{coincide}
 use Rattle.codes.specs.declared.protocol.Protocol.{Protocol}
 use Rattle.context.specs.declared.Context.{Context}
 use Rattle.call.specs.declared.Sent.{Sent}
-use Rattle.transitions.specs.declared.Send.{Send}
+use Rattle.call.specs.declared.Sending.{Sending}
 use Rattle.reply.specs.declared.Own.{Own}
 use Rattle.reply.specs.Reply.{putAll}
 
-module _ (protocol : Protocol) (d identity s : List ℕ) (own : Own) (x : Context) (sends : Send) (k : Sent) where
+module _ (protocol : Protocol) (d identity s : List ℕ) (own : Own) (x : Context) (sends : Sending) (k : Sent) where
   pub put-count-coincides : (a b : ℕ) → a ≡ length (putAll protocol (length d) own identity s x sends k) → b ≡ length (putAll protocol (length d) own identity s x sends k) → a ≡ b
   put-count-coincides a b = coincide (length (putAll protocol (length d) own identity s x sends k)) a b
 

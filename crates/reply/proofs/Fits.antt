@@ -21,10 +21,12 @@ use Rattle.context.specs.declared.Context.{Context}
 use Rattle.context.proofs.Whole.{and-right, and-both}
 use Rattle.call.specs.declared.Sent.{Sent}
 use Rattle.transitions.specs.declared.Send.{Send}
-use Rattle.transitions.specs.declared.Send.the-variants.{Nothing, ImmediateSetup, Setup, TerminationRequest, Status, ErrorStatus}
-use Rattle.transitions.proofs.Sound.{isPlain}
+use Rattle.transitions.specs.declared.Send.the-variants.{Nothing, ImmediateSetup, Setup, TerminationRequest}
+use Rattle.call.specs.declared.Sending.{Sending}
+use Rattle.call.specs.declared.Sending.the-variants.{OfRow, Status, ErrorStatus}
+use Rattle.call.specs.Step.{silent}
 use Rattle.reply.specs.declared.Own.{Own}
-use Rattle.reply.specs.Reply.{flagSent, sent, statusOf, causeOctet, copied, hearing, ownOf, statusDue, requestDue, replyOf, putContent, putOf, behind, putDue, putAll}
+use Rattle.reply.specs.Reply.{flagSent, sent, statusOf, causeOctet, copied, hearing, rowOf, ownOf, statusDue, requestDue, replyOf, putContent, putRow, putOf, behind, putDue, putAll}
 use Rattle.reply.proofs.Copied.{telling-length, status-length, copied-is}
 
 code-small : (s : State) → ltb (callStateCode s) 16 ≡ true
@@ -60,12 +62,16 @@ module _ (protocol : Protocol) (x : Context) where
       let big : 255 ≤ room = ltb-false _ _ e in
       at-cond (λ (w : List ℕ). length w ≤ room) (fits protocol (flagSent x) (x .value) c) _ [] (λ f. let l : length (sent protocol x c) ≤ 251 = short c f in omega arith) (λ f. omega arith))
 
-pub put-within : (protocol : Protocol) (room : ℕ) (own : Own) (identity s : List ℕ) (x : Context) (sends : Send) → length (putOf protocol room own identity s x sends) ≤ room
+row-within : (protocol : Protocol) (room : ℕ) (own : Own) (identity : List ℕ) (x : Context) (send : Send) → length (putRow protocol room own identity x send) ≤ room
+unfolding putRow
+row-within protocol room own identity x Nothing = omega arith
+row-within protocol room own identity x ImmediateSetup = content-within protocol x room _
+row-within protocol room own identity x Setup = content-within protocol x room _
+row-within protocol room own identity x TerminationRequest = content-within protocol x room _
+
+pub put-within : (protocol : Protocol) (room : ℕ) (own : Own) (identity s : List ℕ) (x : Context) (sends : Sending) → length (putOf protocol room own identity s x sends) ≤ room
 unfolding putOf
-put-within protocol room own identity s x Nothing = omega arith
-put-within protocol room own identity s x ImmediateSetup = content-within protocol x room _
-put-within protocol room own identity s x Setup = content-within protocol x room _
-put-within protocol room own identity s x TerminationRequest = content-within protocol x room _
+put-within protocol room own identity s x (OfRow send) = row-within protocol room own identity x send
 put-within protocol room own identity s x (Status cause) = content-within protocol x room _
 put-within protocol room own identity s x (ErrorStatus cause) = content-within protocol (hearing s x) room _
 
@@ -124,22 +130,10 @@ module _ (protocol : Protocol) (x : Context) (value : x .value ≤ 6) where
 -- ---- steps in range
 
 -- What is asked of a step that reports a message: the value that is awaited is one, and nothing else was pending. Of any other step nothing is asked.
-abbrev pub Orderly : List ℕ → Context → Sent → Send → Type 0
-Orderly s x k Nothing = Unit {0}
-Orderly s x k ImmediateSetup = Unit {0}
-Orderly s x k Setup = Unit {0}
-Orderly s x k TerminationRequest = Unit {0}
+abbrev pub Orderly : List ℕ → Context → Sent → Sending → Type 0
+Orderly s x k (OfRow send) = Unit {0}
 Orderly s x k (Status cause) = Unit {0}
 Orderly s x k (ErrorStatus cause) = (x .talk .awaiting ≡ true → getD s 0 0 / 16 % 8 ≤ 6) × (k .status ≡ false) × (k .request ≡ false)
-
--- So a step that sends no STATUS of its own is in order.
-pub plain-orderly : (s : List ℕ) (x : Context) (k : Sent) (sends : Send) → isPlain sends ≡ true → Orderly s x k sends
-plain-orderly s x k Nothing e = tt
-plain-orderly s x k ImmediateSetup e = tt
-plain-orderly s x k Setup e = tt
-plain-orderly s x k TerminationRequest e = tt
-plain-orderly s x k (Status cause) e = tt
-plain-orderly s x k (ErrorStatus cause) e = never e
 
 hearing-value : (s : List ℕ) (x : Context) → x .value ≤ 6 → (x .talk .awaiting ≡ true → getD s 0 0 / 16 % 8 ≤ 6) → hearing s x .value ≤ 6
 unfolding hearing
@@ -186,21 +180,32 @@ unfolding behind
 behind-whole room v w h = rw (le-leb (length v + length w) room h)
 
 -- Where the buffer and each field are in range, what is put is what is sent, and has at most 251 octets.
-module _ (protocol : Protocol) (x : Context) (value : x .value ≤ 6) (own : Own) (identity s : List ℕ) (sends : Send) (k : Sent) (key : own .key ≤ 7)
+module _ (protocol : Protocol) (x : Context) (value : x .value ≤ 6) (own : Own) (identity s : List ℕ) (sends : Sending) (k : Sent) (key : own .key ≤ 7)
     (low : 1 ≤ length identity) (high : length identity ≤ 8) (ordered : Orderly s x k sends) where
+  row-put : (room : ℕ) → 255 ≤ room → (send : Send) → putRow protocol room own identity x send ≡ rowOf protocol own identity x send
+  unfolding putRow rowOf
+  row-put room big Nothing = refl
+  row-put room big ImmediateSetup = goes protocol x value room big _ (immediate-fits protocol x value own identity key low high)
+  row-put room big Setup = goes protocol x value room big _ (setup-fits protocol x value)
+  row-put room big TerminationRequest = goes protocol x value room big _ (request-fits protocol x value)
+
   own-put : (room : ℕ) → 255 ≤ room → putOf protocol room own identity s x sends ≡ ownOf protocol own identity s x sends
   unfolding putOf ownOf
   own-put room big = go sends ordered
     where
-      go : (m : Send) → Orderly s x k m → putOf protocol room own identity s x m ≡ ownOf protocol own identity s x m
-      go Nothing o = refl
-      go ImmediateSetup o = goes protocol x value room big _ (immediate-fits protocol x value own identity key low high)
-      go Setup o = goes protocol x value room big _ (setup-fits protocol x value)
-      go TerminationRequest o = goes protocol x value room big _ (request-fits protocol x value)
+      go : (m : Sending) → Orderly s x k m → putOf protocol room own identity s x m ≡ ownOf protocol own identity s x m
+      go (OfRow send) o = row-put room big send
       go (Status cause) o = goes protocol x value room big _ (status-fits protocol x value (causeOctet cause ∷ []) (omega arith) (omega arith))
       go (ErrorStatus cause) o =
           let v : hearing s x .value ≤ 6 = hearing-value s x value (o .0) in
           goes protocol (hearing s x) v room big _ (error-fits protocol (hearing s x) v cause s)
+
+  row-few : (send : Send) → length (rowOf protocol own identity x send) ≤ 20
+  unfolding rowOf
+  row-few Nothing = omega arith
+  row-few ImmediateSetup = immediate-few protocol x own identity high
+  row-few Setup = setup-few protocol x
+  row-few TerminationRequest = terminate-few protocol x
 
   pub reply-short : length (replyOf protocol own identity s x sends k) ≤ 251
   unfolding replyOf ownOf statusDue requestDue
@@ -218,11 +223,8 @@ module _ (protocol : Protocol) (x : Context) (value : x .value ≤ 6) (own : Own
       alone : (w : List ℕ) → length w ≤ 251 → k .status ≡ false → k .request ≡ false → length (w ++ (statusDue protocol x k ++ requestDue protocol x k)) ≤ 251
       alone w h a b = rw (a, b, append-nil w) h
 
-      go : (m : Send) → Orderly s x k m → length (ownOf protocol own identity s x m ++ (statusDue protocol x k ++ requestDue protocol x k)) ≤ 251
-      go Nothing o = few [] (omega arith)
-      go ImmediateSetup o = few (ownOf protocol own identity s x ImmediateSetup) (immediate-few protocol x own identity high)
-      go Setup o = few (ownOf protocol own identity s x Setup) (setup-few protocol x)
-      go TerminationRequest o = few (ownOf protocol own identity s x TerminationRequest) (terminate-few protocol x)
+      go : (m : Sending) → Orderly s x k m → length (ownOf protocol own identity s x m ++ (statusDue protocol x k ++ requestDue protocol x k)) ≤ 251
+      go (OfRow send) o = few (rowOf protocol own identity x send) (row-few send)
       go (Status cause) o =
           let l : length (sent protocol x (statusOf x (causeOctet cause ∷ []))) ≡ 5 + 1 = status-length protocol x _ in
           few (ownOf protocol own identity s x (Status cause)) (omega arith)
@@ -246,18 +248,21 @@ module _ (protocol : Protocol) (x : Context) (value : x .value ≤ 6) (own : Own
 -- ---- what a reply hangs on
 
 -- Where the row sends nothing and nothing was pending, there is no reply.
-pub nothing-sent : (protocol : Protocol) (own : Own) (identity s : List ℕ) (x : Context) (sends : Send) (k : Sent) → sends ≡ Nothing → k .status ≡ false → k .request ≡ false
+pub nothing-sent : (protocol : Protocol) (own : Own) (identity s : List ℕ) (x : Context) (sends : Sending) (k : Sent) → sends ≡ silent → k .status ≡ false → k .request ≡ false
     → replyOf protocol own identity s x sends k ≡ []
-unfolding replyOf ownOf statusDue requestDue
+unfolding replyOf ownOf rowOf statusDue requestDue
 nothing-sent protocol own identity s x sends k e a b = rw (e, a, b)
 
--- Only the report of a message hangs on the octets received.
-pub plain-reply : (protocol : Protocol) (own : Own) (identity s u : List ℕ) (x : Context) (sends : Send) (k : Sent) → isPlain sends ≡ true
+-- What is sent is a row's, and no STATUS of the step's own.
+abbrev pub OfARow : Sending → Type 0
+OfARow (OfRow send) = Unit {0}
+OfARow (Status cause) = ⊥
+OfARow (ErrorStatus cause) = ⊥
+
+-- That hangs on no octets received.
+pub row-reply : (protocol : Protocol) (own : Own) (identity s u : List ℕ) (x : Context) (sends : Sending) (k : Sent) → OfARow sends
     → replyOf protocol own identity s x sends k ≡ replyOf protocol own identity u x sends k
 unfolding replyOf ownOf
-plain-reply protocol own identity s u x Nothing k e = refl
-plain-reply protocol own identity s u x ImmediateSetup k e = refl
-plain-reply protocol own identity s u x Setup k e = refl
-plain-reply protocol own identity s u x TerminationRequest k e = refl
-plain-reply protocol own identity s u x (Status cause) k e = never e
-plain-reply protocol own identity s u x (ErrorStatus cause) k e = never e
+row-reply protocol own identity s u x (OfRow send) k e = refl
+row-reply protocol own identity s u x (Status cause) k e = absurd e
+row-reply protocol own identity s u x (ErrorStatus cause) k e = absurd e

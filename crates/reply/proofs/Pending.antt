@@ -5,12 +5,12 @@ use mathlib.Core.List.{List, [], _∷_, _++_, append-nil, append-assoc}
 use mathlib.Core.Bool.{Bool, true, false, cond, not, _||_}
 use native.Mathlib.Omega.{arith}
 use lib.Dec.{leb, ltb}
-use lib.ListN.{length, take, getD, length-append}
+use lib.ListN.{length, drop, getD, length-append}
 use lib.Seq.{sets, length-sets}
-use borrow.Author.Tests.{le-leb, lt-leb, leb-true, ltb-false, not-true, not-false}
-use Rattle.octets.specs.Run.{part}
+use borrow.Author.Tests.{le-ltb, lt-ltb, leb-true, leb-false, not-true, not-false}
+use borrow.Rule.Slice.PartMut.{putMid, midOf, mid-len, put-same}
 use Rattle.octets.proofs.Choice.{cond-same, at-cond, never}
-use Rattle.octets.proofs.Stores.{sets-append, over-start}
+use Rattle.octets.proofs.Stores.{sets-append, part-sets}
 use Rattle.codes.specs.CallStates.{callStateCode}
 use Rattle.codes.specs.Attributes.{attributesOf}
 use Rattle.codes.specs.declared.protocol.Protocol.{Protocol}
@@ -23,13 +23,13 @@ use Rattle.writing.specs.declared.Wrote.{Wrote}
 use Rattle.writing.specs.declared.Wrote.the-variants.{Written, ShortBuffer, OutOfRange}
 use Rattle.writing.specs.Writing.{writable, octetsWritten, putAnswer, putLeaves}
 use Rattle.context.specs.declared.Context.{Context}
-use Rattle.context.specs.Talk.{flagOf}
 use Rattle.call.specs.declared.Sent.{Sent}
 use Rattle.call.specs.Talk.{withValue}
-use Rattle.transitions.specs.declared.Send.{Send}
+use Rattle.call.specs.declared.Sending.{Sending}
 use Rattle.reply.specs.declared.Own.{Own}
-use Rattle.reply.specs.Reply.{flagSent, sent, causeOctet, hearing, behind, putDue, putOf, putAll}
-use Rattle.reply.specs.Put.{countOf, statusTelling, putSix, placed, pendingOf}
+use Rattle.reply.specs.declared.Sender.{Sender}
+use Rattle.reply.specs.Reply.{sent, causeOctet, hearing, behind, putDue, putOf, putAll}
+use Rattle.reply.specs.Put.{countOf, senderOf, statusTelling, messageFrom, placed, pendingOf}
 use Rattle.reply.proofs.Fits.{put-within}
 
 -- So many octets `n` stand behind the first `at` of `d`, and are `w`.
@@ -38,6 +38,9 @@ Stands d at w n after = (n ≡ at + length w) × (after ≡ sets d at w)
 
 nothing-stands : (d : List ℕ) (at : ℕ) → Stands d at [] at d
 nothing-stands d at = (omega arith, refl)
+
+stands-as : (d : List ℕ) (at : ℕ) (v w : List ℕ) (n : ℕ) (after : List ℕ) → v ≡ w → Stands d at w n after → Stands d at v n after
+stands-as d at v w n after e p = rw e p
 
 -- ---- what a report is sent in
 
@@ -57,95 +60,71 @@ module _ (s : List ℕ) (x : Context) where
 
 -- ---- one message
 
-answered : (a b : Bool) (w : List ℕ) → countOf (cond a (cond b ShortBuffer (Written (length w))) OutOfRange) ≡ length (cond a (cond b [] w) [])
-unfolding countOf
-answered true true w = refl
-answered true false w = refl
-answered false b w = refl
+-- The part of a reply behind its first `at` octets, and the reply with other octets in its place.
+abbrev lent : List ℕ → ℕ → List ℕ
+lent d at = midOf at (length d - at) d
 
-left : (a b : Bool) (d w : List ℕ) → cond a (cond b d (sets d 0 w)) d ≡ sets d 0 (cond a (cond b [] w) [])
-left true true d w = refl
-left true false d w = refl
-left false b d w = refl
+abbrev back : List ℕ → ℕ → List ℕ → List ℕ
+back d at = putMid at (length d - at) d
 
--- A message that is put into six octets, and copied behind the first `at` of the reply.
-module _ (protocol : Protocol) (s : List ℕ) (x : Context) (m : Message) where
-  six-short : length (putSix protocol s x m) ≤ 6
-  unfolding putSix
-  six-short =
-      at-cond (λ (w : List ℕ). length w ≤ 6) (writable protocol s (flagSent x) (x .value) m) _ []
-      (λ e. at-cond (λ (w : List ℕ). length w ≤ 6) (ltb 6 (length (octetsWritten protocol s (flagSent x) (x .value) m))) [] _ (λ h. omega arith) (λ h. ltb-false _ _ h)) (λ e. omega arith)
+-- Octets that are put into that part.
+module _ (d : List ℕ) (at : ℕ) (low : at ≤ length d) (w : List ℕ) where
+  -- The part is short of room for them exactly if the reply is.
+  short-of : (t : Bool) → leb (at + length w) (length d) ≡ t → ltb (length (lent d at)) (length w) ≡ not t
+  short-of true e =
+      let h : at + length w ≤ length d = leb-true _ _ e in
+      let l : length (lent d at) ≡ length d - at = mid-len at (length d) d (omega arith) in
+      le-ltb (length (lent d at)) (length w) (omega arith)
+  short-of false e =
+      let h : length d < at + length w = leb-false _ _ e in
+      let l : length (lent d at) ≡ length d - at = mid-len at (length d) d (omega arith) in
+      lt-ltb (length (lent d at)) (length w) (omega arith)
 
-  module _ (d : List ℕ) (six : length d ≡ 6) (f : Bool) (e : f ≡ flagOf x) where
-    six-count : (w : Wrote) (n : ℕ) → w ≡ putAnswer protocol d s (not f) (x .value) m → n ≡ countOf w → n ≡ length (putSix protocol s x m)
-    unfolding putAnswer putSix
-    six-count w n p q = q ∙ ap countOf (p ∙ rw (e, six))
-        ∙ answered (writable protocol s (flagSent x) (x .value) m) (ltb 6 (length (octetsWritten protocol s (flagSent x) (x .value) m))) (octetsWritten protocol s (flagSent x) (x .value) m)
+  -- What the writer answers and leaves, where the message can be written and where it can't.
+  abbrev Put : Bool → Bool → List ℕ → Type 0
+  Put can short v = Stands d at v (at + countOf (cond can (cond short ShortBuffer (Written (length w))) OutOfRange)) (back d at (cond can (cond short (lent d at) (sets (lent d at) 0 w)) (lent d at)))
 
-    six-leaves : (after : List ℕ) → after ≡ putLeaves protocol d s (not f) (x .value) m → after ≡ sets d 0 (putSix protocol s x m)
-    unfolding putLeaves putSix
-    six-leaves after p =
-        let w : List ℕ = octetsWritten protocol s (flagSent x) (x .value) m in
-        let t : Bool = writable protocol s (flagSent x) (x .value) m in
-        p ∙ ap (λ (g : Bool). putLeaves protocol d s (not g) (x .value) m) e ∙ left t (ltb (length d) (length w)) d w
-        ∙ ap (λ (j : ℕ). sets d 0 (cond t (cond (ltb j (length w)) [] w) [])) six
+  into-part : (can : Bool) → Put can (ltb (length (lent d at)) (length w)) (placed (length d) at (cond can w []))
+  unfolding placed countOf
+  into-part true = go (leb (at + length w) (length d)) refl
+    where
+      go : (t : Bool) → leb (at + length w) (length d) ≡ t → Put true (ltb (length (lent d at)) (length w)) (cond (leb (at + length w) (length d)) w [])
+      go true e = rw (short-of true e, e) (refl, part-sets d w at (leb-true _ _ e))
+      go false e = rw (short-of false e, e) (refl, put-same at (length d - at) d)
+  into-part false = stands-as d at _ [] (at + 0) _ (cond-same (leb (at + length {A = ℕ} []) (length d)) []) (refl, put-same at (length d - at) d)
 
 -- ---- behind others
-
--- Octets that are not due, that have no room, that are put.
-module _ (room at : ℕ) (w : List ℕ) (due : Bool) where
-  placed-not : not due ≡ true → placed room at (cond due w []) ≡ []
-  unfolding placed
-  placed-not e = ap (λ (t : Bool). placed room at (cond t w [])) (not-true due e) ∙ cond-same (leb (at + length {A = ℕ} []) room) []
-
-  placed-short : not due ≡ false → room < at + length w → placed room at (cond due w []) ≡ []
-  unfolding placed
-  placed-short e h = ap (λ (t : Bool). placed room at (cond t w [])) (not-false due e) ∙ rw (lt-leb (at + length w) room h)
-
-  placed-whole : not due ≡ false → at + length w ≤ room → placed room at (cond due w []) ≡ w
-  unfolding placed
-  placed-whole e h = ap (λ (t : Bool). placed room at (cond t w [])) (not-false due e) ∙ rw (le-leb (at + length w) room h)
 
 placed-within : (room at : ℕ) (w : List ℕ) → at ≤ room → at + length (placed room at w) ≤ room
 unfolding placed
 placed-within room at w h = at-cond (λ (v : List ℕ). at + length v ≤ room) (leb (at + length w) room) w [] (λ e. leb-true _ _ e) (λ e. omega arith)
 
-stands-as : (d : List ℕ) (at : ℕ) (v w : List ℕ) (n : ℕ) (after : List ℕ) → v ≡ w → Stands d at w n after → Stands d at v n after
-stands-as d at v w n after e p = rw e p
-
--- The three ways of `put_due`.
+-- The two ways of `put_due`.
 module _ (protocol : Protocol) (s : List ℕ) (x : Context) (m : Message) (d : List ℕ) (at : ℕ) (due : Bool) where
   abbrev Due : ℕ → List ℕ → Type 0
-  Due = Stands d at (placed (length d) at (cond due (putSix protocol s x m) []))
+  Due = Stands d at (placed (length d) at (cond due (messageFrom protocol s (senderOf x) m) []))
 
   pub not-due : not due ≡ true → Due at d
-  not-due e = stands-as d at _ [] at d (placed-not (length d) at (putSix protocol s x m) due e) (nothing-stands d at)
+  unfolding placed
+  not-due e = stands-as d at _ [] at d (ap (λ (t : Bool). placed (length d) at (cond t (messageFrom protocol s (senderOf x) m) [])) (not-true due e) ∙ cond-same (leb (at + length {A = ℕ} []) (length d)) []) (nothing-stands d at)
 
-  module _ (e : not due ≡ false) (low : at ≤ length d) (zeros : List ℕ) (z : length zeros ≡ 6) (f : Bool) (g : f ≡ flagOf x) (w : Wrote)
-      (p : w ≡ putAnswer protocol zeros s (not f) (x .value) m) (n : ℕ) (q : n ≡ countOf w) where
-    counted : n ≡ length (putSix protocol s x m)
-    counted = six-count protocol s x m zeros z f g w n p q
+  module _ (e : not due ≡ false) (low : at ≤ length d) (y : Sender) (f : y ≡ senderOf x) (w : Wrote) (p : w ≡ putAnswer protocol (lent d at) s (y .flag) (y .value) m) (n : ℕ) (q : n ≡ countOf w) where
+    pub due-put : (after : List ℕ) → after ≡ putLeaves protocol (lent d at) s (y .flag) (y .value) m → Due (at + n) (back d at after)
+    unfolding putAnswer putLeaves messageFrom
+    due-put after u =
+        let octets : List ℕ = octetsWritten protocol s (y .flag) (y .value) m in
+        let t : Bool = writable protocol s (y .flag) (y .value) m in
+        let i : Put d at low octets t (ltb (length (lent d at)) (length octets)) (placed (length d) at (cond t octets [])) = into-part d at low octets t in
+        stands-as d at _ (placed (length d) at (cond t octets [])) (at + n) _
+        (ap (λ (g : Bool). placed (length d) at (cond g (messageFrom protocol s (senderOf x) m) [])) (not-false due e) ∙ ap (λ (z : Sender). placed (length d) at (messageFrom protocol s z m)) (sym f))
+        (ap (λ (j : ℕ). at + j) (q ∙ ap countOf p) ∙ i .0, ap (back d at) u ∙ i .1)
 
-    pub no-room : length d - at < n → Due at d
-    no-room l =
-        let c : n ≡ length (putSix protocol s x m) = counted in
-        stands-as d at _ [] at d (placed-short (length d) at (putSix protocol s x m) due e (omega arith)) (nothing-stands d at)
-
-    pub copy-fits : n ≤ length d - at → (six : List ℕ) → six ≡ putLeaves protocol zeros s (not f) (x .value) m → (at + n ≤ length d) × (0 + n ≤ length six)
-    copy-fits l six u =
-        let c : n ≡ length (putSix protocol s x m) = counted in
-        let k : length (putSix protocol s x m) ≤ 6 = six-short protocol s x m in
-        let h : length six ≡ length zeros = ap length (six-leaves protocol s x m zeros z f g six u) ∙ length-sets zeros 0 (putSix protocol s x m) in
-        (omega arith, omega arith)
-
-    pub due-put : n ≤ length d - at → (six after : List ℕ) → six ≡ putLeaves protocol zeros s (not f) (x .value) m → after ≡ sets d at (part six 0 n) → Due (at + n) after
-    due-put l six after u v =
-        let c : n ≡ length (putSix protocol s x m) = counted in
-        let k : length (putSix protocol s x m) ≤ 6 = six-short protocol s x m in
-        let h : length (putSix protocol s x m) ≤ length zeros = omega arith in
-        let t : take n six ≡ putSix protocol s x m
-        = ap (λ (j : ℕ). take j six) c ∙ ap (take (length (putSix protocol s x m))) (six-leaves protocol s x m zeros z f g six u) ∙ over-start zeros (putSix protocol s x m) h in
-        stands-as d at _ (putSix protocol s x m) (at + n) after (placed-whole (length d) at (putSix protocol s x m) due e (omega arith)) (ap (λ (j : ℕ). at + j) c, v ∙ ap (sets d at) t)
+    pub due-within : (after : List ℕ) → after ≡ putLeaves protocol (lent d at) s (y .flag) (y .value) m → at + n ≤ length d
+    due-within after u =
+        let v : List ℕ = cond due (messageFrom protocol s (senderOf x) m) [] in
+        let h : at + n ≡ at + length (placed (length d) at v) = due-put after u .0 in
+        let k : at + length (placed (length d) at v) ≤ length d = placed-within (length d) at v low in
+        omega arith
 
 -- ---- two messages
 
@@ -167,10 +146,10 @@ stands-within d at w n e low p =
 
 module _ (protocol : Protocol) (x : Context) (k : Sent) (d : List ℕ) (at : ℕ) where
   abbrev statusPut : Message → List ℕ
-  statusPut m = placed (length d) at (cond (k .status) (putSix protocol (158 ∷ []) x m) [])
+  statusPut m = placed (length d) at (cond (k .status) (messageFrom protocol (158 ∷ []) (senderOf x) m) [])
 
   abbrev requestPut : ℕ → ℕ → List ℕ
-  requestPut room n = placed room n (cond (k .request) (putSix protocol (158 ∷ []) x (TerminationRequest (x .reference))) [])
+  requestPut room n = placed room n (cond (k .request) (messageFrom protocol (158 ∷ []) (senderOf x) (TerminationRequest (x .reference))) [])
 
   -- `put_pending`.
   pub both-pending : (m : Message) → m ≡ statusTelling (record { start = 0; count = 1 }) (k .state) (k .parameters) → (n : ℕ) (e : List ℕ) → Stands d at (statusPut m) n e
@@ -199,15 +178,15 @@ behind-none room v = ap (λ (w : List ℕ). cond (leb (length v + 0) room) w v) 
 
 module _ (protocol : Protocol) (x : Context) (k : Sent) where
   status-due : putDue protocol (k .status) x (status (causeOctet 30 ∷ []) (Present (callStateCode (k .state))) (Present (attributesOf (k .parameters))))
-      ≡ cond (k .status) (putSix protocol (158 ∷ []) x (statusTelling (record { start = 0; count = 1 }) (k .state) (k .parameters))) []
-  unfolding putDue putSix writable lies sent written table
+      ≡ cond (k .status) (messageFrom protocol (158 ∷ []) (senderOf x) (statusTelling (record { start = 0; count = 1 }) (k .state) (k .parameters))) []
+  unfolding putDue messageFrom writable lies sent written table
   status-due = refl
 
-  request-due : putDue protocol (k .request) x (terminationRequest (x .reference)) ≡ cond (k .request) (putSix protocol (158 ∷ []) x (TerminationRequest (x .reference))) []
-  unfolding putDue putSix writable sent written table
+  request-due : putDue protocol (k .request) x (terminationRequest (x .reference)) ≡ cond (k .request) (messageFrom protocol (158 ∷ []) (senderOf x) (TerminationRequest (x .reference))) []
+  unfolding putDue messageFrom writable sent written table
   request-due = refl
 
-module _ (protocol : Protocol) (own : Own) (identity s d : List ℕ) (x : Context) (sends : Send) (k : Sent) where
+module _ (protocol : Protocol) (own : Own) (identity s d : List ℕ) (x : Context) (sends : Sending) (k : Sent) where
   abbrev ours : List ℕ
   ours = putOf protocol (length d) own identity s x sends
 
@@ -217,8 +196,8 @@ module _ (protocol : Protocol) (own : Own) (identity s d : List ℕ) (x : Contex
   all-is : whole ≡ ours ++ pendingOf protocol (length d) (length ours) x k
   unfolding putAll pendingOf
   all-is =
-      let a : List ℕ = placed (length d) (length ours) (cond (k .status) (putSix protocol (158 ∷ []) x (statusTelling (record { start = 0; count = 1 }) (k .state) (k .parameters))) []) in
-      let r : List ℕ = cond (k .request) (putSix protocol (158 ∷ []) x (TerminationRequest (x .reference))) [] in
+      let a : List ℕ = placed (length d) (length ours) (cond (k .status) (messageFrom protocol (158 ∷ []) (senderOf x) (statusTelling (record { start = 0; count = 1 }) (k .state) (k .parameters))) []) in
+      let r : List ℕ = cond (k .request) (messageFrom protocol (158 ∷ []) (senderOf x) (TerminationRequest (x .reference))) [] in
       rw (status-due protocol x k, request-due protocol x k)
       (behind-is (length d) _ r ∙ ap (λ (v : List ℕ). v ++ placed (length d) (length v) r) (behind-is (length d) ours _) ∙ ap (λ (j : ℕ). (ours ++ a) ++ placed (length d) j r) (length-append ours a) ∙ append-assoc ours a _)
 

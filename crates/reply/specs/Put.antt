@@ -1,4 +1,4 @@
--- What writing a message of the context's transaction comes to, where its runs lie in `s`.
+-- What writing a message comes to, where its runs lie in `s`.
 use Prim.Native.Nat.{ℕ, _+_}
 use mathlib.Core.List.{List, [], _∷_, _++_}
 use mathlib.Core.Bool.{cond}
@@ -12,12 +12,15 @@ use Rattle.codes.specs.Attributes.{attributesOf}
 use Rattle.message.specs.declared.Half.the-variants.{Present}
 use Rattle.message.specs.declared.Message.{Message}
 use Rattle.message.specs.declared.Message.the-variants.{TerminationRequest, Status}
+use Rattle.message.specs.Content.{Content, status}
+use Rattle.message.specs.Tables.{written, fits}
 use Rattle.writing.specs.declared.Wrote.{Wrote}
 use Rattle.writing.specs.declared.Wrote.the-variants.{Written, ShortBuffer, OutOfRange}
 use Rattle.writing.specs.Writing.{writable, octetsWritten}
 use Rattle.codes.specs.declared.protocol.Protocol.{Protocol}
 use Rattle.context.specs.declared.Context.{Context}
 use Rattle.call.specs.declared.Sent.{Sent}
+use Rattle.reply.specs.declared.Sender.{Sender}
 use Rattle.reply.specs.Reply.{flagSent}
 
 -- How many octets writing wrote.
@@ -26,20 +29,27 @@ countOf (Written count) = count
 countOf ShortBuffer = 0
 countOf OutOfRange = 0
 
-unfoldable pub putFrom : Protocol → ℕ → List ℕ → Context → Message → List ℕ
-putFrom protocol room s x message =
-    cond (ltb room 255) []
-    (cond (writable protocol s (flagSent x) (x .value) message) (octetsWritten protocol s (flagSent x) (x .value) message) [])
+-- What a message has of the context that it is sent in.
+abbrev pub senderOf : Context → Sender
+senderOf x = record { flag = flagSent x; value = x .value; state = x .state; parameters = x .parameters }
+
+-- The message's octets, and none where it can't be written.
+unfoldable pub messageFrom : Protocol → List ℕ → Sender → Message → List ℕ
+messageFrom protocol s by message = cond (writable protocol s (by .flag) (by .value) message) (octetsWritten protocol s (by .flag) (by .value) message) []
+
+unfoldable pub putFrom : Protocol → ℕ → List ℕ → Sender → Message → List ℕ
+putFrom protocol room s by message = cond (ltb room 255) [] (messageFrom protocol s by message)
+
+-- The same where the message is given by its content, and what a STATUS has then.
+unfoldable pub putBy : Protocol → ℕ → Sender → Content → List ℕ
+putBy protocol room by content = cond (ltb room 255) [] (cond (fits protocol (by .flag) (by .value) content) (written protocol (by .flag) (by .value) content) [])
+
+unfoldable pub statusBy : Sender → List ℕ → Content
+statusBy by cause = status cause (Present (callStateCode (by .state))) (Present (attributesOf (by .parameters)))
 
 -- A STATUS that tells a state and parameters, where its cause lies in a run.
 abbrev pub statusTelling : Run → State → Parameters → Message
 statusTelling cause state parameters = Status cause (Present (callStateCode state)) (Present (attributesOf parameters))
-
--- The same where the message is put into six octets.
-unfoldable pub putSix : Protocol → List ℕ → Context → Message → List ℕ
-putSix protocol s x message =
-    cond (writable protocol s (flagSent x) (x .value) message)
-    (cond (ltb 6 (length (octetsWritten protocol s (flagSent x) (x .value) message))) [] (octetsWritten protocol s (flagSent x) (x .value) message)) []
 
 -- Octets behind the first `at`, where there is room for them, and else none.
 unfoldable pub placed : ℕ → ℕ → List ℕ → List ℕ
@@ -50,5 +60,5 @@ unfoldable pub pendingOf : Protocol → ℕ → ℕ → Context → Sent → Lis
 pendingOf protocol room at x k =
     let source : List ℕ = 158 ∷ [] in
     let status : List ℕ =
-    placed room at (cond (k .status) (putSix protocol source x (statusTelling (record { start = 0; count = 1 }) (k .state) (k .parameters))) []) in
-    status ++ placed room (at + length status) (cond (k .request) (putSix protocol source x (TerminationRequest (x .reference))) [])
+    placed room at (cond (k .status) (messageFrom protocol source (senderOf x) (statusTelling (record { start = 0; count = 1 }) (k .state) (k .parameters))) []) in
+    status ++ placed room (at + length status) (cond (k .request) (messageFrom protocol source (senderOf x) (TerminationRequest (x .reference))) [])

@@ -15,7 +15,9 @@ use Rattle.context.specs.Talk.{flagOf}
 use Rattle.call.specs.declared.Sent.{Sent}
 use Rattle.call.specs.Talk.{withValue}
 use Rattle.transitions.specs.declared.Send.{Send}
-use Rattle.transitions.specs.declared.Send.the-variants.{Nothing, ImmediateSetup, Setup, TerminationRequest, Status, ErrorStatus}
+use Rattle.transitions.specs.declared.Send.the-variants.{Nothing, ImmediateSetup, Setup, TerminationRequest}
+use Rattle.call.specs.declared.Sending.{Sending}
+use Rattle.call.specs.declared.Sending.the-variants.{OfRow, Status, ErrorStatus}
 use Rattle.reply.specs.declared.Own.{Own}
 
 -- Rule 1: the transaction carries our value; we send the opposite flag of the one we expect.
@@ -45,12 +47,16 @@ copied protocol x cause s =
 unfoldable pub hearing : List ℕ → Context → Context
 hearing s x = cond (x .talk .awaiting) (withValue (getD s 0 0 / 16 % 8) x) x
 
--- What a row sends in the context after the step, where `s` is the message received.
-unfoldable pub ownOf : Protocol → Own → List ℕ → List ℕ → Context → Send → List ℕ
-ownOf protocol own identity s x Nothing = []
-ownOf protocol own identity s x ImmediateSetup = sent protocol x (immediateSetup (own .key) (own .classmark) identity (x .reference))
-ownOf protocol own identity s x Setup = sent protocol x (setup (x .reference))
-ownOf protocol own identity s x TerminationRequest = sent protocol x (terminationRequest (x .reference))
+-- What a row sends in the context after the step.
+unfoldable pub rowOf : Protocol → Own → List ℕ → Context → Send → List ℕ
+rowOf protocol own identity x Nothing = []
+rowOf protocol own identity x ImmediateSetup = sent protocol x (immediateSetup (own .key) (own .classmark) identity (x .reference))
+rowOf protocol own identity x Setup = sent protocol x (setup (x .reference))
+rowOf protocol own identity x TerminationRequest = sent protocol x (terminationRequest (x .reference))
+
+-- What the step itself sends, where `s` is the message received.
+unfoldable pub ownOf : Protocol → Own → List ℕ → List ℕ → Context → Sending → List ℕ
+ownOf protocol own identity s x (OfRow send) = rowOf protocol own identity x send
 ownOf protocol own identity s x (Status cause) = sent protocol x (statusOf x (causeOctet cause ∷ []))
 ownOf protocol own identity s x (ErrorStatus cause) = let y : Context = hearing s x in sent protocol y (statusOf y (causeOctet cause ∷ copied protocol y cause s))
 
@@ -63,7 +69,7 @@ unfoldable pub requestDue : Protocol → Context → Sent → List ℕ
 requestDue protocol x k = cond (k .request) (sent protocol x (terminationRequest (x .reference))) []
 
 -- The whole reply: the row's own message, then STATUS, then TERMINATION REQUEST, one behind the other.
-unfoldable pub replyOf : Protocol → Own → List ℕ → List ℕ → Context → Send → Sent → List ℕ
+unfoldable pub replyOf : Protocol → Own → List ℕ → List ℕ → Context → Sending → Sent → List ℕ
 replyOf protocol own identity s x sends k = ownOf protocol own identity s x sends ++ (statusDue protocol x k ++ requestDue protocol x k)
 
 -- The same where a buffer or a field may be out of range: then nothing is written.
@@ -74,11 +80,14 @@ putContent protocol room x content = cond (ltb room 255) [] (cond (fits protocol
 unfoldable pub copyCount : ℕ → ℕ
 copyCount count = cond (leb count 245) count 0
 
-unfoldable pub putOf : Protocol → ℕ → Own → List ℕ → List ℕ → Context → Send → List ℕ
-putOf protocol room own identity s x Nothing = []
-putOf protocol room own identity s x ImmediateSetup = putContent protocol room x (immediateSetup (own .key) (own .classmark) identity (x .reference))
-putOf protocol room own identity s x Setup = putContent protocol room x (setup (x .reference))
-putOf protocol room own identity s x TerminationRequest = putContent protocol room x (terminationRequest (x .reference))
+unfoldable pub putRow : Protocol → ℕ → Own → List ℕ → Context → Send → List ℕ
+putRow protocol room own identity x Nothing = []
+putRow protocol room own identity x ImmediateSetup = putContent protocol room x (immediateSetup (own .key) (own .classmark) identity (x .reference))
+putRow protocol room own identity x Setup = putContent protocol room x (setup (x .reference))
+putRow protocol room own identity x TerminationRequest = putContent protocol room x (terminationRequest (x .reference))
+
+unfoldable pub putOf : Protocol → ℕ → Own → List ℕ → List ℕ → Context → Sending → List ℕ
+putOf protocol room own identity s x (OfRow send) = putRow protocol room own identity x send
 putOf protocol room own identity s x (Status cause) = putContent protocol room x (statusOf x (causeOctet cause ∷ []))
 putOf protocol room own identity s x (ErrorStatus cause) =
     let y : Context = hearing s x in putContent protocol room y (statusOf y (causeOctet cause ∷ copied protocol y cause s))
@@ -87,11 +96,11 @@ putOf protocol room own identity s x (ErrorStatus cause) =
 unfoldable pub behind : ℕ → List ℕ → List ℕ → List ℕ
 behind room first octets = cond (leb (length first + length octets) room) (first ++ octets) first
 
--- What is put where a message may be out of range: one of over six octets is none of these.
+-- What is put where a message may be out of range.
 unfoldable pub putDue : Protocol → Bool → Context → Content → List ℕ
 putDue protocol due x content = cond due (cond (fits protocol (flagSent x) (x .value) content) (sent protocol x content) []) []
 
-unfoldable pub putAll : Protocol → ℕ → Own → List ℕ → List ℕ → Context → Send → Sent → List ℕ
+unfoldable pub putAll : Protocol → ℕ → Own → List ℕ → List ℕ → Context → Sending → Sent → List ℕ
 putAll protocol room own identity s x sends k =
     behind room
     (behind room (putOf protocol room own identity s x sends)

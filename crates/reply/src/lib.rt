@@ -7,8 +7,9 @@ ghost use lib.ListN.{length, getD};
 ghost use lib.Seq.{sets};
 ghost use Rattle.octets.specs.Run.{part};
 ghost use Rattle.message.specs.Content.{immediateSetup};
-ghost use Rattle.reply.specs.Reply.{copyCount, statusOf, hearing, putContent, putOf, putAll};
-ghost use Rattle.reply.specs.Put.{countOf, statusTelling, putFrom, putSix, placed, pendingOf};
+ghost use Rattle.reply.specs.Reply.{copyCount, hearing, putContent, putRow, putOf, putAll};
+ghost use Rattle.reply.specs.Put.{countOf, senderOf, statusBy, statusTelling, messageFrom, putBy, putFrom, placed, pendingOf};
+use call::Sending;
 use call::Sent;
 use codes::attributes::Parameters;
 use codes::attributes::attributes_of;
@@ -42,19 +43,41 @@ fn written_count(wrote: Wrote) -> usize
     }
 }
 
-// Writes a message of the context's transaction; its runs lie in `source`.
+// What a message has of the context that it is sent in: the transaction's flag and value, and what a STATUS tells.
+// It has few octets. A context that was handed to a function of two callers would stand in memory at every step, also where nothing is sent.
+struct Sender {
+    flag: bool,
+    value: u8,
+    state: State,
+    parameters: Parameters,
+}
+
+fn sender_of(context: Context) -> Sender
+    ensures { λ r. ⌜ r ≡ senderOf context ⌝ }
+{
+    let flag = context::expected_flag(context);
+    let state = context.state;
+    let parameters = context.parameters;
+    Sender {
+        flag: !flag,
+        value: context.value,
+        state,
+        parameters,
+    }
+}
+
+// Writes a message of the sender's transaction; its runs lie in `source`.
 fn put_message(
     protocol: Protocol,
     reply: &mut [u8],
     source: &[u8],
-    context: Context,
+    sender: Sender,
     message: Message,
 ) -> usize
-    ensures { λ r. ⌜ r ≡ length (putFrom protocol (length (now (reply .entry))) (now (source .entry)) context message) ⌝ }
-    ensures { λ _. ⌜ now (reply .exit) ≡ sets (now (reply .entry)) 0 (putFrom protocol (length (now (reply .entry))) (now (source .entry)) context message) ⌝ }
+    ensures { λ r. ⌜ r ≡ length (putFrom protocol (length (now (reply .entry))) (now (source .entry)) sender message) ⌝ }
+    ensures { λ _. ⌜ now (reply .exit) ≡ sets (now (reply .entry)) 0 (putFrom protocol (length (now (reply .entry))) (now (source .entry)) sender message) ⌝ }
 {
-    let flag = context::expected_flag(context);
-    let wrote = writing::write(protocol, reply, source, !flag, context.value, message);
+    let wrote = writing::write(protocol, reply, source, sender.flag, sender.value, message);
     written_count(wrote)
 }
 
@@ -75,17 +98,17 @@ fn status_telling(cause: Run, state: State, parameters: Parameters) -> Message
 fn put_status(
     protocol: Protocol,
     reply: &mut [u8],
-    context: Context,
+    sender: Sender,
     cause: u8,
     octets: &[u8],
     count: usize,
 ) -> usize
     requires { ⌜ (count ≤ 245) × (count ≤ length (now octets)) ⌝ }
-    ensures { λ r. ⌜ r ≡ length (putContent protocol (length (now (reply .entry))) context (statusOf context ((128 + cause % 128) ∷ part (now (octets .entry)) 0 count))) ⌝ }
-    ensures { λ _. ⌜ now (reply .exit) ≡ sets (now (reply .entry)) 0 (putContent protocol (length (now (reply .entry))) context (statusOf context ((128 + cause % 128) ∷ part (now (octets .entry)) 0 count))) ⌝ }
+    ensures { λ r. ⌜ r ≡ length (putBy protocol (length (now (reply .entry))) sender (statusBy sender ((128 + cause % 128) ∷ part (now (octets .entry)) 0 count))) ⌝ }
+    ensures { λ _. ⌜ now (reply .exit) ≡ sets (now (reply .entry)) 0 (putBy protocol (length (now (reply .entry))) sender (statusBy sender ((128 + cause % 128) ∷ part (now (octets .entry)) 0 count))) ⌝ }
 {
-    let state = context.state;
-    let parameters = context.parameters;
+    let state = sender.state;
+    let parameters = sender.parameters;
     let mut source = [0u8; 246];
     source[0] = 128 + cause % 128;
     copy_to(&mut source, 1, octets, 0, count);
@@ -94,7 +117,7 @@ fn put_status(
         count: 1 + count,
     };
     let message = status_telling(whole, state, parameters);
-    put_message(protocol, reply, &source, context, message)
+    put_message(protocol, reply, &source, sender, message)
 }
 
 // How many octets of a message received an error STATUS copies: all or none.
@@ -131,7 +154,8 @@ fn put_immediate(
         identity: run,
         reference,
     };
-    put_message(protocol, reply, identity, context, message)
+    let sender = sender_of(context);
+    put_message(protocol, reply, identity, sender, message)
 }
 
 // The first octet of a message, and 0 where there is none.
@@ -175,7 +199,40 @@ fn hearing(octets: &[u8], context: Context) -> Context
     }
 }
 
-// Writes what the row itself sends over the start of `reply`, and says how many octets that are. `octets` is the message received.
+// Writes what a row sends over the start of `reply`, and says how many octets that are.
+fn put_row(
+    protocol: Protocol,
+    reply: &mut [u8],
+    own: Own,
+    identity: &[u8],
+    context: Context,
+    send: Send,
+) -> usize
+    ensures { λ r. ⌜ r ≡ length (putRow protocol (length (now (reply .entry))) own (now (identity .entry)) context send) ⌝ }
+    ensures { λ _. ⌜ now (reply .exit) ≡ sets (now (reply .entry)) 0 (putRow protocol (length (now (reply .entry))) own (now (identity .entry)) context send) ⌝ }
+{
+    let reference = context.reference;
+    match send {
+        Send::Nothing => 0,
+        Send::ImmediateSetup => put_immediate(protocol, reply, own, identity, context),
+        Send::Setup => put_message(
+            protocol,
+            reply,
+            identity,
+            sender_of(context),
+            Message::Setup { reference },
+        ),
+        Send::TerminationRequest => put_message(
+            protocol,
+            reply,
+            identity,
+            sender_of(context),
+            Message::TerminationRequest { reference },
+        ),
+    }
+}
+
+// Writes what the step itself sends over the start of `reply`, and says how many octets that are. `octets` is the message received.
 fn put_own(
     protocol: Protocol,
     reply: &mut [u8],
@@ -183,40 +240,24 @@ fn put_own(
     identity: &[u8],
     octets: &[u8],
     context: Context,
-    sends: Send,
+    sends: Sending,
 ) -> usize
     ensures { λ r. ⌜ r ≡ length (putOf protocol (length (now (reply .entry))) own (now (identity .entry)) (now (octets .entry)) context sends) ⌝ }
     ensures { λ _. ⌜ now (reply .exit) ≡ sets (now (reply .entry)) 0 (putOf protocol (length (now (reply .entry))) own (now (identity .entry)) (now (octets .entry)) context sends) ⌝ }
 {
-    let reference = context.reference;
     match sends {
-        Send::Nothing => 0,
-        Send::ImmediateSetup => put_immediate(protocol, reply, own, identity, context),
-        Send::Setup => put_message(
-            protocol,
-            reply,
-            identity,
-            context,
-            Message::Setup { reference },
-        ),
-        Send::TerminationRequest => put_message(
-            protocol,
-            reply,
-            identity,
-            context,
-            Message::TerminationRequest { reference },
-        ),
-        Send::Status(cause) => put_status(protocol, reply, context, cause, octets, 0),
-        Send::ErrorStatus(cause) => {
+        Sending::OfRow(send) => put_row(protocol, reply, own, identity, context, send),
+        Sending::Status(cause) => put_status(protocol, reply, sender_of(context), cause, octets, 0),
+        Sending::ErrorStatus(cause) => {
             let count = copy_count(octets.len());
-            let heard = hearing(octets, context);
+            let heard = sender_of(hearing(octets, context));
             put_status(protocol, reply, heard, cause, octets, count)
         }
     }
 }
 
 // Puts a message that is due behind the first `at` octets of the reply, where there is room for it, and says how many octets stand there then.
-// It has at most six octets, and its cause is "Response to GET STATUS" where it has one.
+// Its cause is "Response to GET STATUS" where it has one.
 fn put_due(
     protocol: Protocol,
     reply: &mut [u8],
@@ -226,21 +267,23 @@ fn put_due(
     message: Message,
 ) -> usize
     requires { ⌜ at ≤ length (now reply) ⌝ }
-    ensures { λ r. ⌜ r ≡ at + length (placed (length (now (reply .entry))) at (cond due (putSix protocol (158 ∷ []) context message) [])) ⌝ }
-    ensures { λ _. ⌜ now (reply .exit) ≡ sets (now (reply .entry)) at (placed (length (now (reply .entry))) at (cond due (putSix protocol (158 ∷ []) context message) [])) ⌝ }
+    ensures { λ r. ⌜ r ≡ at + length (placed (length (now (reply .entry))) at (cond due (messageFrom protocol (158 ∷ []) (senderOf context) message) [])) ⌝ }
+    ensures { λ _. ⌜ now (reply .exit) ≡ sets (now (reply .entry)) at (placed (length (now (reply .entry))) at (cond due (messageFrom protocol (158 ∷ []) (senderOf context) message) [])) ⌝ }
 {
     if !due {
         return at;
     }
-    let mut six = [0u8; 6];
     let cause = [158u8; 1];
-    let flag = context::expected_flag(context);
-    let wrote = writing::put(protocol, &mut six, &cause, !flag, context.value, message);
+    let sender = sender_of(context);
+    let wrote = writing::put(
+        protocol,
+        &mut reply[at..],
+        &cause,
+        sender.flag,
+        sender.value,
+        message,
+    );
     let count = written_count(wrote);
-    if reply.len() - at < count {
-        return at;
-    }
-    copy_to(reply, at, &six, 0, count);
     at + count
 }
 
@@ -275,7 +318,7 @@ pub fn put(
     identity: &[u8],
     octets: &[u8],
     context: Context,
-    sends: Send,
+    sends: Sending,
     sent: Sent,
 ) -> usize
     ensures { λ r. ⌜ r ≡ length (putAll protocol (length (now (reply .entry))) own (now (identity .entry)) (now (octets .entry)) context sends sent) ⌝ }

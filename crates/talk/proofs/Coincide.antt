@@ -12,17 +12,14 @@ use Rattle.call.specs.declared.Seen.{Seen}
 use Rattle.call.specs.declared.Sent.{Sent}
 use Rattle.call.specs.Talk.{noted, adopted, originating, awaitingAfter, sentIn, flushed}
 
-pub noted-coincides : (note : Note) (talk : Talk) (a b : Talk) → a ≡ noted note talk → b ≡ noted note talk → a ≡ b
-noted-coincides note talk a b = coincide (noted note talk) a b
-
 pub adopted-coincides : (x : Context) (seen : Seen) (a b : Context) → a ≡ adopted x seen → b ≡ adopted x seen → a ≡ b
 adopted-coincides x seen a b = coincide (adopted x seen) a b
 
 pub originating-coincides : (stores : Stores) (attributes : ℕ) (p a b : Parameters) → a ≡ originating stores attributes p → b ≡ originating stores attributes p → a ≡ b
 originating-coincides stores attributes p a b = coincide (originating stores attributes p) a b
 
-pub awaiting-after-coincides : (from next : State) (p : Parameters) (talk a b : Talk) → a ≡ awaitingAfter from next p talk → b ≡ awaitingAfter from next p talk → a ≡ b
-awaiting-after-coincides from next p talk a b = coincide (awaitingAfter from next p talk) a b
+pub kept-after-coincides : (from next : State) (note : Note) (p : Parameters) (talk a b : Talk) → a ≡ awaitingAfter from next p (noted note talk) → b ≡ awaitingAfter from next p (noted note talk) → a ≡ b
+kept-after-coincides from next note p talk a b = coincide (awaitingAfter from next p (noted note talk)) a b
 
 pub sent-in-coincides : (x : Context) (a b : Sent) → a ≡ sentIn x → b ≡ sentIn x → a ≡ b
 sent-in-coincides x a b = coincide (sentIn x) a b

@@ -1,6 +1,7 @@
 // What only a group call keeps, step by step: which side chose the transaction value, whether one is awaited, and what waits for COMM. In a broadcast call it is left
 // as it is.
 ghost use mathlib.Core.Path.{_≡_};
+ghost use Rattle.talk.specs.Quiet.{isQuiet};
 ghost use Rattle.call.specs.Talk.{noted, withValue, adopted, originating, awaitingAfter, sentIn, requested, answered, flushed};
 use call::Seen;
 use call::Sent;
@@ -54,8 +55,23 @@ fn awaited(awaiting: bool, talk: Talk) -> Talk
     }
 }
 
+// Whether a row that leads there changes nothing of what is kept: it notes nothing, and U2ws is not entered. So it is with every row of a broadcast call.
+fn is_quiet(note: Note, next: State) -> bool
+    ensures { λ r. ⌜ r ≡ isQuiet note next ⌝ }
+{
+    let after = context::state_number(next);
+    match note {
+        Note::Nothing => !(after == U2WS),
+        Note::WeChose => false,
+        Note::CellChose => false,
+        Note::TerminationPends => false,
+        Note::StatusPends => false,
+        Note::TerminationDropped => false,
+    }
+}
+
 // What a row notes.
-pub fn noted(note: Note, talk: Talk) -> Talk
+fn noted(note: Note, talk: Talk) -> Talk
     ensures { λ r. ⌜ r ≡ noted note talk ⌝ }
 {
     match note {
@@ -120,13 +136,24 @@ pub fn originating(stores: Stores, attributes: u8, parameters: Parameters) -> Pa
 }
 
 // Who enters U2ws and is not the originator awaits the value of the next message.
-pub fn awaiting_after(from: State, next: State, parameters: Parameters, talk: Talk) -> Talk
+fn awaiting_after(from: State, next: State, parameters: Parameters, talk: Talk) -> Talk
     ensures { λ r. ⌜ r ≡ awaitingAfter from next parameters talk ⌝ }
 {
     let before = context::state_number(from);
     let after = context::state_number(next);
     let entered = (after == U2WS) & (!(before == after) & !parameters.orig);
     awaited(talk.awaiting | entered, talk)
+}
+
+// What is kept after a row, where these are the parameters: what the row notes, and whether a value is awaited.
+pub fn kept_after(from: State, next: State, note: Note, parameters: Parameters, talk: Talk) -> Talk
+    ensures { λ r. ⌜ r ≡ awaitingAfter from next parameters (noted note talk) ⌝ }
+{
+    if is_quiet(note, next) {
+        return talk;
+    }
+    let told = noted(note, talk);
+    awaiting_after(from, next, parameters, told)
 }
 
 // What was pending is sent as soon as COMM is true: a STATUS, and a TERMINATION REQUEST where ORIG is true too.
@@ -178,11 +205,10 @@ fn requested(context: Context) -> Context
     ensures { λ r. ⌜ r ≡ requested context ⌝ }
 {
     let here = context.state;
-    let told = context.parameters;
     let ran = context.timers;
     let reference = context.reference;
     let before = context.talk;
-    let parameters = context::entering(State::U5, told);
+    let parameters = context::start_row(State::U5);
     let stopped = timer::with_timer(Timer::MmEst, false, ran);
     let timers = timer::with_timer(Timer::Term, true, stopped);
     let remembered = context::remembering(here);

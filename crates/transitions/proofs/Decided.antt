@@ -18,7 +18,7 @@ use Rattle.transitions.specs.declared.Decision.{Decision}
 use Rattle.transitions.specs.declared.Decision.the-variants.{Take, NoStep, Ignore, Report, TellStatus, SetParameters}
 use Rattle.transitions.specs.Table.{Row, timersAfter, decidedBy}
 use Rattle.transitions.proofs.Every.{decided-holds}
-use Rattle.transitions.proofs.Sound.{keepsFit, keepsTalk, setsFresh, rightly, setsRightly, atMost, isPlain, sendsPlain, Sound}
+use Rattle.transitions.proofs.Sound.{keepsFit, keepsTalk, setsFresh, rightly, setsRightly, atMost, Sound}
 
 -- What holds of a row that is taken; the other decisions take none.
 abbrev pub OfTaken : (Taken → Type 0) → Decision → Type 0
@@ -29,9 +29,9 @@ OfTaken P (Report cause) = Unit {0}
 OfTaken P TellStatus = Unit {0}
 OfTaken P SetParameters = Unit {0}
 
--- An event that is no message takes a row that sends no STATUS, or has no step.
+-- An event that is no message takes a row, or has no step.
 abbrev pub Plain : Decision → Type 0
-Plain (Take d) = isPlain (d .sends) ≡ true
+Plain (Take d) = Unit {0}
 Plain NoStep = Unit {0}
 Plain Ignore = ⊥
 Plain (Report cause) = ⊥
@@ -104,11 +104,7 @@ module _ (fitness : Fitness) (most : ℕ) (table : List Row) (sound : Sound fitn
   sets-rightly fit =
       decided-holds (setsRightly fitness) (λ k. OfTaken (SetRightly x)) x (λ k d e. if-so _ _ e (fit-timers fitness x fit)) (λ k. tt) (λ cause. tt) table (sound .set-rightly) (λ u. tt) tt (λ u. tt)
 
-  -- No row sends a STATUS of its own.
-  pub decided-plain : (n code : ℕ) → OfTaken (λ d. isPlain (d .sends) ≡ true) (decidedBy table x n code)
-  decided-plain = decided-holds sendsPlain (λ k. OfTaken (λ d. isPlain (d .sends) ≡ true)) x (λ k d e. e) (λ k. tt) (λ cause. tt) table (sound .sent-plain) (λ u. tt) tt (λ u. tt)
-
   pub event-plain : (n code : ℕ) → eqb n 18 ≡ false → Plain (decidedBy table x n code)
   event-plain =
-      decided-holds sendsPlain (λ k c. eqb k 18 ≡ false → Plain c) x (λ k d e f. e) (λ k f. tt) (λ cause f. never (sym f)) table (sound .sent-plain) (λ u f. never (sym f))
+      decided-holds (atMost most) (λ k c. eqb k 18 ≡ false → Plain c) x (λ k d e f. tt) (λ k f. tt) (λ cause f. never (sym f)) table (sound .actions-few) (λ u f. never (sym f))
       (λ f. never (sym f)) (λ u f. never (sym f))

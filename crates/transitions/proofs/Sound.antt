@@ -19,8 +19,6 @@ use Rattle.context.specs.Remembered.{remembering, returning}
 use Rattle.fitness.specs.Tables.{fitnessOf}
 use Rattle.fitness.proofs.Sound.{Sound as SoundFitness}
 use Rattle.fitness.proofs.Tables.{fitness-sound as of-fitness}
-use Rattle.transitions.specs.declared.Send.{Send}
-use Rattle.transitions.specs.declared.Send.the-variants.{Nothing, ImmediateSetup, Setup, TerminationRequest, Status, ErrorStatus}
 use Rattle.transitions.specs.declared.Note.{Note}
 use Rattle.transitions.specs.declared.Note.the-variants as Note
 use Rattle.transitions.specs.declared.Stores.{Stores}
@@ -142,18 +140,6 @@ setsRightly fitness n s t r d =
 abbrev pub atMost : ℕ → Test
 atMost most n s t r d = leb (d .actions) most
 
--- A STATUS is no row's: GET STATUS and what is reported have one.
-abbrev pub isPlain : Send → Bool
-isPlain Nothing = true
-isPlain ImmediateSetup = true
-isPlain Setup = true
-isPlain TerminationRequest = true
-isPlain (Status cause) = false
-isPlain (ErrorStatus cause) = false
-
-abbrev pub sendsPlain : Test
-sendsPlain n s t r d = isPlain (d .sends)
-
 -- The rows of a table are sound by what it says of fitness, with actions of at most a number.
 pub record Sound (fitness : Fitness) (most : ℕ) (table : List Row) : Type 0 where
   pub fitness-sound : SoundFitness fitness
@@ -164,7 +150,6 @@ pub record Sound (fitness : Fitness) (most : ℕ) (table : List Row) : Type 0 wh
   pub set-fresh : passes (setsFresh fitness) table ≡ true
   pub set-rightly : passes (setsRightly fitness) table ≡ true
   pub actions-few : passes (atMost most) table ≡ true
-  pub sent-plain : passes sendsPlain table ≡ true
 
 -- ---- the tests, computed: each by itself, since a declaration may take only so many steps
 
@@ -188,10 +173,6 @@ actions-few-first : passes (atMost (greatestActions First)) (stepTable First) �
 unfolding stepTable fitnessOf protocolOf greatestActions timersFitBy rememberedFitBy chooserFitBy runningAmong withTimer remembering returning
 actions-few-first = refl
 
-sent-plain-first : passes sendsPlain (stepTable First) ≡ true
-unfolding stepTable fitnessOf protocolOf greatestActions timersFitBy rememberedFitBy chooserFitBy runningAmong withTimer remembering returning
-sent-plain-first = refl
-
 fit-kept-second : passes (keepsFit (fitnessOf Second)) (stepTable Second) ≡ true
 unfolding stepTable fitnessOf protocolOf greatestActions timersFitBy rememberedFitBy chooserFitBy runningAmong withTimer remembering returning
 fit-kept-second = refl
@@ -211,10 +192,6 @@ set-rightly-second = refl
 actions-few-second : passes (atMost (greatestActions Second)) (stepTable Second) ≡ true
 unfolding stepTable fitnessOf protocolOf greatestActions timersFitBy rememberedFitBy chooserFitBy runningAmong withTimer remembering returning
 actions-few-second = refl
-
-sent-plain-second : passes sendsPlain (stepTable Second) ≡ true
-unfolding stepTable fitnessOf protocolOf greatestActions timersFitBy rememberedFitBy chooserFitBy runningAmong withTimer remembering returning
-sent-plain-second = refl
 
 fit-kept-third : passes (keepsFit (fitnessOf Third)) (stepTable Third) ≡ true
 unfolding stepTable fitnessOf protocolOf greatestActions timersFitBy rememberedFitBy chooserFitBy runningAmong withTimer remembering returning
@@ -236,10 +213,6 @@ actions-few-third : passes (atMost (greatestActions Third)) (stepTable Third) �
 unfolding stepTable fitnessOf protocolOf greatestActions timersFitBy rememberedFitBy chooserFitBy runningAmong withTimer remembering returning
 actions-few-third = refl
 
-sent-plain-third : passes sendsPlain (stepTable Third) ≡ true
-unfolding stepTable fitnessOf protocolOf greatestActions timersFitBy rememberedFitBy chooserFitBy runningAmong withTimer remembering returning
-sent-plain-third = refl
-
 fit-kept-group : passes (keepsFit (fitnessOf Group)) (stepTable Group) ≡ true
 unfolding stepTable fitnessOf protocolOf greatestActions timersFitBy rememberedFitBy chooserFitBy runningAmong withTimer remembering returning
 fit-kept-group = refl
@@ -260,10 +233,6 @@ actions-few-group : passes (atMost (greatestActions Group)) (stepTable Group) �
 unfolding stepTable fitnessOf protocolOf greatestActions timersFitBy rememberedFitBy chooserFitBy runningAmong withTimer remembering returning
 actions-few-group = refl
 
-sent-plain-group : passes sendsPlain (stepTable Group) ≡ true
-unfolding stepTable fitnessOf protocolOf greatestActions timersFitBy rememberedFitBy chooserFitBy runningAmong withTimer remembering returning
-sent-plain-group = refl
-
 -- The rows of each table are sound, and their actions are at most what a log of it takes: the sum of all, six of a broadcast call and seven of a group call.
 pub rows-sound : (table : Table) → Sound (fitnessOf table) (greatestActions table) (stepTable table)
 unfolding stepTable protocolOf
@@ -276,7 +245,6 @@ rows-sound First = record {
   set-fresh = set-fresh-first;
   set-rightly = set-rightly-first;
   actions-few = actions-few-first;
-  sent-plain = sent-plain-first;
 }
 rows-sound Second = record {
   fitness-sound = of-fitness Second;
@@ -287,7 +255,6 @@ rows-sound Second = record {
   set-fresh = set-fresh-second;
   set-rightly = set-rightly-second;
   actions-few = actions-few-second;
-  sent-plain = sent-plain-second;
 }
 rows-sound Third = record {
   fitness-sound = of-fitness Third;
@@ -298,7 +265,6 @@ rows-sound Third = record {
   set-fresh = set-fresh-third;
   set-rightly = set-rightly-third;
   actions-few = actions-few-third;
-  sent-plain = sent-plain-third;
 }
 rows-sound Group = record {
   fitness-sound = of-fitness Group;
@@ -309,5 +275,4 @@ rows-sound Group = record {
   set-fresh = set-fresh-group;
   set-rightly = set-rightly-group;
   actions-few = actions-few-group;
-  sent-plain = sent-plain-group;
 }

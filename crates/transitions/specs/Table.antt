@@ -151,12 +151,12 @@ receiving Protocol.Group = U2r
 
 abbrev pub allButU0 : Protocol → List State
 allButU0 Protocol.Broadcast = U0p ∷ U1 ∷ U2 ∷ U3 ∷ U4 ∷ U5 ∷ U6 ∷ []
-allButU0 Protocol.Group = U0p ∷ U1 ∷ U2sl ∷ U2wr ∷ U2r ∷ U2ws ∷ U2sr ∷ U2nc ∷ U3 ∷ U4 ∷ U5 ∷ []
+allButU0 Protocol.Group = U0p ∷ U1 ∷ (subStates ++ (U3 ∷ U4 ∷ U5 ∷ []))
 
 -- All but U0, U0.p and U1.
 abbrev pub taken-part : Protocol → List State
 taken-part Protocol.Broadcast = U2 ∷ U3 ∷ U4 ∷ U5 ∷ U6 ∷ []
-taken-part Protocol.Group = U2sl ∷ U2wr ∷ U2r ∷ U2ws ∷ U2sr ∷ U2nc ∷ U3 ∷ U4 ∷ U5 ∷ []
+taken-part Protocol.Group = subStates ++ (U3 ∷ U4 ∷ U5 ∷ [])
 
 -- A group call "remembers which side chose its transaction value (events 1 and 2 ours, 10 the cell's)".
 abbrev pub choosing : Protocol → Note → Note

@@ -2,16 +2,12 @@
 use codes::state::State;
 use timer::Timer;
 
-// What is sent.
+// What a row sends.
 pub enum Send {
     Nothing,
     ImmediateSetup,
     Setup,
     TerminationRequest,
-    // A STATUS with this cause.
-    Status(u8),
-    // A STATUS with this cause and, if it fits, a copy of the message received.
-    ErrorStatus(u8),
 }
 
 // What is stored of what the event carries.

@@ -9,13 +9,11 @@ use Rattle.octets.proofs.Choice.{never}
 use Rattle.octets.specs.declared.Reference.{Reference}
 use Rattle.version.specs.declared.Table.{Table}
 use Rattle.context.specs.declared.Context.{Context}
-use Rattle.transitions.specs.declared.Send.{Send}
-use Rattle.transitions.specs.declared.Send.the-variants.{Nothing, ImmediateSetup, Setup, TerminationRequest, Status, ErrorStatus}
 use Rattle.transitions.specs.declared.Decision.{Decision}
 use Rattle.transitions.specs.declared.Decision.the-variants.{Take, NoStep, Ignore, Report, TellStatus, SetParameters}
 use Rattle.fitness.specs.Tables.{fitnessOf}
 use Rattle.transitions.specs.Table.{stepTable}
-use Rattle.transitions.proofs.Sound.{isPlain, rows-sound}
+use Rattle.transitions.proofs.Sound.{rows-sound}
 use Rattle.transitions.proofs.Decided.{Plain, event-plain as by-rows}
 use Rattle.call.specs.declared.Seen.{Seen}
 use Rattle.call.specs.declared.Settled.{Settled}
@@ -25,7 +23,7 @@ use Rattle.call.specs.Step.{noStep, carriedOut, stepBy}
 use Rattle.codes.specs.declared.protocol.Protocol.{Protocol}
 use Rattle.version.specs.Version.{greatestActions, protocolOf}
 use Rattle.reply.specs.declared.Own.{Own}
-use Rattle.reply.proofs.Fits.{plain-reply}
+use Rattle.reply.proofs.Fits.{OfARow, row-reply}
 use Rattle.step_arguments.specs.Arguments.{outOfRange, argumentRefusal}
 use Rattle.radio.specs.declared.Told.{Told}
 use Rattle.radio.specs.declared.Told.the-variants.{Is, NoEvent}
@@ -37,22 +35,19 @@ use Rattle.verdict.specs.Entries.{carriedBy}
 
 -- ---- only the answer to a message copies it
 
-abbrev PlainTaken : Settled → Type 0
-PlainTaken t = isPlain (t .sends) ≡ true
-
-carried-plain : (table : Table) (x : Context) (d : Decision) (e : Seen) → Plain d → PlainTaken (carriedOut (fitnessOf table) x d e)
+carried-plain : (table : Table) (x : Context) (d : Decision) (e : Seen) → Plain d → OfARow (carriedOut (fitnessOf table) x d e .sends)
 unfolding carriedOut noStep
-carried-plain table x (Take d) e p = p
-carried-plain table x NoStep e p = refl
+carried-plain table x (Take d) e p = tt
+carried-plain table x NoStep e p = tt
 carried-plain table x Ignore e p = absurd p
 carried-plain table x (Report cause) e p = absurd p
 carried-plain table x TellStatus e p = absurd p
 carried-plain table x SetParameters e p = absurd p
 
-event-plain : (table : Table) (x : Context) (t : Told) → NoMessage t → PlainTaken (settled table x (toldDue t))
+event-plain : (table : Table) (x : Context) (t : Told) → NoMessage t → OfARow (settled table x (toldDue t) .sends)
 unfolding settledBy toldDue stepBy noStep
 event-plain table x (Is event) h = carried-plain table x _ (seenOf event) (by-rows (fitnessOf table) (greatestActions table) (stepTable table) (rows-sound table) x (seenOf event .number) (seenOf event .code) h)
-event-plain table x NoEvent h = refl
+event-plain table x NoEvent h = tt
 
 -- ---- the step
 
@@ -74,7 +69,7 @@ module _ (table : Table) (own : Own) (identity : List ℕ) (x : Context) (e : Gi
 
   -- Without a message, the octets do not matter.
   no-octets : (t : Told) → NoMessage t → (s u : List ℕ) → reacted (protocolOf table) own identity s (settled table x (toldDue t)) ≡ reacted (protocolOf table) own identity u (settled table x (toldDue t))
-  no-octets t h s u = rw (plain-reply (protocolOf table) own identity s u (settled table x (toldDue t) .context) (settled table x (toldDue t) .sends) (settled table x (toldDue t) .sent) (event-plain table x t h))
+  no-octets t h s u = rw (row-reply (protocolOf table) own identity s u (settled table x (toldDue t) .context) (settled table x (toldDue t) .sends) (settled table x (toldDue t) .sent) (event-plain table x t h))
 
   -- Without a call, the value and the reference do not matter.
   no-call : carriesCall number ≡ false → (v w : ℕ) (r q : Reference) → eventOf number v r ≡ eventOf number w q

@@ -14,7 +14,7 @@ use Rattle.call.specs.Events.{seenOf}
 use Rattle.call.specs.Talk.{adopted, originating, noted, awaitingAfter, sentIn, flushed}
 use Rattle.call.specs.Step.{parametersAfter, valueAfter, referenceAfter, afterwards, ignored, noStep, carriedOut, stepBy}
 use Rattle.reply.specs.declared.Own.{Own}
-use Rattle.reply.specs.Reply.{ownOf, statusDue, requestDue, replyOf}
+use Rattle.reply.specs.Reply.{rowOf, ownOf, statusDue, requestDue, replyOf}
 use Rattle.received.specs.Received.{sameOctets}
 use Rattle.received.specs.Due.{dueOf}
 use Rattle.step_arguments.specs.Arguments.{settingsOut, outOfRange, argumentRefusal}
@@ -132,5 +132,5 @@ Answered (c ∷ cs) =
     ((answerNumber (judgeOf own identity (c .0)) ≡ c .1) × (answerValues (judgeOf own identity (c .0)) ≡ c .2)) × Answered cs
 
 pub all-cases : Answered cases
-unfolding judgeOf versionJudged invitationTold tellsInvitation tableOf settingsOut judgeTwo judge judgeFrom turn narrow entries entriesIn numberAt groupsAt joined upTo smallAt runAt callAt receivedAt dataAt claimAt restAt entryAt hasEvent greatestState greatestActions carriesCall agree parametersNumber weighs stepOf refusalOf fitnessRefusal argumentRefusal outOfRange reactedTo dueTo eventOf toldDue settledBy stepBy seenOf carriedOut decidedBy decidedIn stepTable heardIn happenedIn noStep ignored afterwards withTimer parametersAfter entering startRow setRow valueAfter referenceAfter cleared fitBy consistentBy timersFitBy rememberedFitBy chooserFitBy pendingFitBy talkFitBy isCleared runningAmong remembering returning expiryOf lengthOf replyOf ownOf statusDue requestDue dueOf sameOctets fitnessOf protocolOf adopted originating noted awaitingAfter sentIn flushed
+unfolding judgeOf versionJudged invitationTold tellsInvitation tableOf settingsOut judgeTwo judge judgeFrom turn narrow entries entriesIn numberAt groupsAt joined upTo smallAt runAt callAt receivedAt dataAt claimAt restAt entryAt hasEvent greatestState greatestActions carriesCall agree parametersNumber weighs stepOf refusalOf fitnessRefusal argumentRefusal outOfRange reactedTo dueTo eventOf toldDue settledBy stepBy seenOf carriedOut decidedBy decidedIn stepTable heardIn happenedIn noStep ignored afterwards withTimer parametersAfter entering startRow setRow valueAfter referenceAfter cleared fitBy consistentBy timersFitBy rememberedFitBy chooserFitBy pendingFitBy talkFitBy isCleared runningAmong remembering returning expiryOf lengthOf replyOf rowOf ownOf statusDue requestDue dueOf sameOctets fitnessOf protocolOf adopted originating noted awaitingAfter sentIn flushed
 all-cases = ((refl, refl), ((refl, refl), ((refl, refl), ((refl, refl), ((refl, refl), ((refl, refl), ((refl, refl), ((refl, refl), ((refl, refl), ((refl, refl), ((refl, refl), ((refl, refl), ((refl, refl), ((refl, refl), ((refl, refl), ((refl, refl), ((refl, refl), ((refl, refl), ((refl, refl), ((refl, refl), ((refl, refl), ((refl, refl), ((refl, refl), ((refl, refl), ((refl, refl), ((refl, refl), ((refl, refl), ((refl, refl), ((refl, refl), tt)))))))))))))))))))))))))))))

@@ -23,7 +23,7 @@ use Rattle.call.specs.Events.{seenMessage, seenOf}
 use Rattle.call.specs.Reasons.{reasonNumber}
 use Rattle.call.specs.Step.{parametersAfter, valueAfter, referenceAfter, afterwards, ignored, noStep, reportedWith, statusTold, parametersSet, carriedOut, stepBy}
 use Rattle.call.specs.Talk.{noted, adopted, originating, awaitingAfter, sentIn, flushed}
-use Rattle.reply.specs.Reply.{sent, statusOf as reply-statusOf, copied, hearing, ownOf, statusDue, requestDue, replyOf, putContent, copyCount, putOf, behind, putDue, putAll}
+use Rattle.reply.specs.Reply.{sent, statusOf as reply-statusOf, copied, hearing, rowOf, ownOf, statusDue, requestDue, replyOf, putContent, copyCount, putOf, behind, putDue, putAll}
 use Rattle.received.specs.Due.{understoodDue, readingDue, dueOf}
 use Rattle.received.specs.Received.{transactionIs, awaitedIs, transactionFits, causeIn, typeCause, askedOf, sameOctets, isOther, Within}
 use Rattle.step_arguments.specs.Arguments.{settingsOut, outOfRange, argumentRefusal}
@@ -51,5 +51,5 @@ abbrev pub run : List ℕ
 run = 0x10 ∷ 0x00 ∷ 0x0A ∷ 0x02 ∷ 0x00 ∷ 0x00 ∷ 0x00 ∷ 0x20 ∷ 0x00 ∷ 0x04 ∷ 0x00 ∷ 0x01 ∷ 0x00 ∷ 0x00 ∷ 0x03 ∷ 0x00 ∷ 0x05 ∷ 0x00 ∷ 0x04 ∷ 0x00 ∷ 0x00 ∷ 0x0B ∷ 0x00 ∷ 0x0A ∷ 0x02 ∷ 0x01 ∷ 0x00 ∷ 0x00 ∷ 0x12 ∷ 0x00 ∷ 0x02 ∷ 0x20 ∷ 0x39 ∷ 0x00 ∷ 0x0B ∷ 0x03 ∷ 0x40 ∷ 0x00 ∷ 0x00 ∷ 0x22 ∷ 0x00 ∷ 0x0C ∷ 0x03 ∷ 0x00 ∷ 0x00 ∷ 0x00 ∷ 0x12 ∷ 0x00 ∷ 0x03 ∷ 0xC0 ∷ 0x3A ∷ 0x0E ∷ 0x01 ∷ 0x0C ∷ 0x03 ∷ 0x00 ∷ 0x00 ∷ 0x00 ∷ 0x12 ∷ 0x00 ∷ 0x03 ∷ 0x40 ∷ 0x3A ∷ 0x0E ∷ 0x00 ∷ 0x0C ∷ 0x07 ∷ 0x00 ∷ 0x06 ∷ 0xC0 ∷ 0x38 ∷ 0x01 ∷ 0x9E ∷ 0xAA ∷ 0xBE ∷ 0x00 ∷ 0x0C ∷ 0x00 ∷ 0x0D ∷ 0x03 ∷ 0x00 ∷ 0x00 ∷ 0xB8 ∷ 0x17 ∷ 0x11 ∷ 0x00 ∷ 0x00 ∷ 0x00 ∷ 0x09 ∷ 0x00 ∷ 0x00 ∷ 0x02 ∷ 0x01 ∷ 0x00 ∷ 0x00 ∷ 0x00 ∷ 0x20 ∷ 0x00 ∷ 0x02 ∷ 0x0C ∷ 0x00 ∷ 0x0E ∷ 0x10 ∷ 0x31 ∷ 0x50 ∷ 0x03 ∷ 0x01 ∷ 0x02 ∷ 0x03 ∷ 0x02 ∷ 0x11 ∷ 0x22 ∷ 0x00 ∷ 0x00 ∷ 0x00 ∷ 0x20 ∷ 0x00 ∷ 0x12 ∷ 0x00 ∷ 0x07 ∷ 0x90 ∷ 0x33 ∷ 0x00 ∷ 0x00 ∷ 0x01 ∷ 0x20 ∷ 0x01 ∷ 0x00 ∷ 0x08 ∷ 0x0F ∷ 0x20 ∷ 0x00 ∷ 0x00 ∷ 0x20 ∷ 0x00 ∷ 0x09 ∷ 0x0E ∷ 0x04 ∷ 0x00 ∷ 0x00 ∷ 0x0B ∷ 0x00 ∷ 0x0A ∷ 0x0A ∷ 0x00 ∷ 0x00 ∷ 0x00 ∷ 0x12 ∷ 0x00 ∷ 0x02 ∷ 0x90 ∷ 0x39 ∷ 0x00 ∷ 0x0B ∷ 0x0B ∷ 0x40 ∷ 0x00 ∷ 0x00 ∷ 0x04 ∷ 0x00 ∷ 0x0B ∷ 0x0B ∷ 0x00 ∷ 0x00 ∷ 0x00 ∷ 0x22 ∷ 0x00 ∷ 0x0C ∷ 0x0B ∷ 0x00 ∷ 0x00 ∷ 0x00 ∷ 0x12 ∷ 0x00 ∷ 0x03 ∷ 0x90 ∷ 0x3A ∷ 0x0F ∷ 0x00 ∷ 0x06 ∷ 0x0F ∷ 0x00 ∷ 0x0C ∷ 0x10 ∷ 0x38 ∷ 0x01 ∷ 0x9E ∷ 0xAA ∷ 0xBF ∷ 0x10 ∷ 0x35 ∷ 0x00 ∷ 0x00 ∷ 0x01 ∷ 0x20 ∷ 0x00 ∷ 0x12 ∷ 0x00 ∷ 0x06 ∷ 0x90 ∷ 0x36 ∷ 0x98 ∷ 0x00 ∷ 0x00 ∷ 0x00 ∷ 0x00 ∷ 0x0C ∷ 0x0F ∷ 0x01 ∷ 0x00 ∷ []
 
 pub run-accepted : (answerNumber (judgeOf own identity run) ≡ 0) × (answerValues (judgeOf own identity run) ≡ 18 ∷ 10000 ∷ 30000 ∷ [])
-unfolding parametersOf weighs attributesOf callStateOf callStateCode discriminator countedAt within nextElement elementAmong elementFrom lies wholeOf identityBehind halfAt connectOf getStatusOf immediateIdentityOf immediateSetupOf setParameterOf setupOf statusOf terminationOf terminationRejectOf terminationRequestOf bodyOf readMessage table typeOf headOf written fits startRow setRow entering cleared rememberedNumber remembering returning flagIn flagBy flagOf expiryOf lengthOf runningAmong withTimer alone consistentBy timersFitBy rememberedFitBy chooserFitBy pendingFitBy talkFitBy isCleared fitBy fitnessOf stepTable heardIn happenedIn decidedIn decidedBy settledBy seenMessage seenOf reasonNumber parametersAfter valueAfter referenceAfter afterwards ignored noStep reportedWith statusTold parametersSet carriedOut stepBy noted adopted originating awaitingAfter sentIn flushed sent reply-statusOf copied hearing ownOf statusDue requestDue replyOf putContent copyCount putOf behind putDue putAll understoodDue readingDue dueOf transactionIs awaitedIs transactionFits causeIn typeCause askedOf sameOctets isOther Within settingsOut outOfRange argumentRefusal eventOf toldDue dueTo reactedTo fitnessRefusal refusalOf stepOf takenOf versionOf tableOf hasEvent greatestState greatestActions protocolOf groups grouped joined groupsAt numberAt upTo smallAt runAt carriesCall callAt receivedAt dataAt claimAt restAt entryAt judgeTwo parametersNumber agree tellsInvitation invitationTold versionJudged judgeOf narrow turn judgeFrom judge entriesIn entries
+unfolding parametersOf weighs attributesOf callStateOf callStateCode discriminator countedAt within nextElement elementAmong elementFrom lies wholeOf identityBehind halfAt connectOf getStatusOf immediateIdentityOf immediateSetupOf setParameterOf setupOf statusOf terminationOf terminationRejectOf terminationRequestOf bodyOf readMessage table typeOf headOf written fits startRow setRow entering cleared rememberedNumber remembering returning flagIn flagBy flagOf expiryOf lengthOf runningAmong withTimer alone consistentBy timersFitBy rememberedFitBy chooserFitBy pendingFitBy talkFitBy isCleared fitBy fitnessOf stepTable heardIn happenedIn decidedIn decidedBy settledBy seenMessage seenOf reasonNumber parametersAfter valueAfter referenceAfter afterwards ignored noStep reportedWith statusTold parametersSet carriedOut stepBy noted adopted originating awaitingAfter sentIn flushed sent reply-statusOf copied hearing rowOf ownOf statusDue requestDue replyOf putContent copyCount putOf behind putDue putAll understoodDue readingDue dueOf transactionIs awaitedIs transactionFits causeIn typeCause askedOf sameOctets isOther Within settingsOut outOfRange argumentRefusal eventOf toldDue dueTo reactedTo fitnessRefusal refusalOf stepOf takenOf versionOf tableOf hasEvent greatestState greatestActions protocolOf groups grouped joined groupsAt numberAt upTo smallAt runAt carriesCall callAt receivedAt dataAt claimAt restAt entryAt judgeTwo parametersNumber agree tellsInvitation invitationTold versionJudged judgeOf narrow turn judgeFrom judge entriesIn entries
 run-accepted = (refl, refl)

@@ -2,6 +2,7 @@
 //! version and reach every row, what was written is read back, what was recorded
 //! is judged.
 
+use super::{reached, ANSWERS};
 use crate::generate::log::true_run;
 use crate::generate::random::Random;
 use crate::generate::{self, versions, walk::Walk};
@@ -255,26 +256,9 @@ fn group_calls_are_reached_often() {
 
 #[test]
 fn every_answer_number_is_reached() {
-    let reached = |word: &str| {
-        let mut answers: Vec<String> = commands(7, 20_000, word)
-            .iter()
-            .map(|line| answer(line.as_bytes()))
-            .map(|line| line.split(' ').next().unwrap().to_string())
-            .collect();
-        answers.sort();
-        answers.dedup();
-        answers.join(" ")
-    };
-    assert_eq!(reached("read"), "0 13 6 ?");
-    assert_eq!(reached("write"), "0 4 5 ?");
-    assert_eq!(reached("step"), "0 1 2 3 4 5 6 7 ?");
-    assert_eq!(reached("settings"), "0 12 ?");
-    assert_eq!(reached("judge"), "0 10 4 8 9 ?");
-    assert_eq!(reached("record"), "0 10 11 4 ?");
-    assert_eq!(reached("gread"), "0 13 6 ?");
-    assert_eq!(reached("gwrite"), "0 4 5 ?");
-    assert_eq!(reached("gstep"), "0 1 2 3 4 5 6 7 ?");
-    assert_eq!(reached("grecord"), "0 10 11 4 ?");
+    for (word, answers) in ANSWERS {
+        assert_eq!(reached(&commands(7, 20_000, word)), answers, "{word}");
+    }
 }
 
 #[test]

@@ -13,31 +13,29 @@ fn gstep(context: &str, event: &str, answer: &str) {
     );
 }
 
-/// A message that is taken or reported: the answer has no reason.
-fn hear(context: &str, octets: &str, answer: &str) {
-    gstep(
-        context,
-        &format!("18 0 00000000 0 {octets}"),
-        &format!("{answer} 0"),
-    );
+/// A step in a line: `CONTEXT | on EVENT` for an event that carries nothing or
+/// `CONTEXT | hear OCTETS` for a message; then `| ANSWER` without its reason, which
+/// is 0, `| ignored REASON` or `| no step`.
+fn step(line: &str) {
+    let parts: Vec<&str> = line.split(" | ").collect();
+    let [context, happens, answer] = parts[..] else {
+        panic!("not three parts: {line}");
+    };
+    let event = match happens.split_once(' ') {
+        Some(("on", event)) => format!("{event} 0 00000000 0 -"),
+        Some(("hear", octets)) => format!("18 0 00000000 0 {octets}"),
+        _ => panic!("neither on nor hear: {line}"),
+    };
+    let answer = match answer.split_once(' ') {
+        Some(("ignored", reason)) => format!("1 {context} 0 - {reason}"),
+        Some(("no", "step")) => format!("3 {context} 0 - 0"),
+        _ => format!("{answer} 0"),
+    };
+    gstep(context, &event, &answer);
 }
 
-fn ignored(context: &str, octets: &str, reason: u8) {
-    let event = format!("18 0 00000000 0 {octets}");
-    gstep(context, &event, &format!("1 {context} 0 - {reason}"));
-}
-
-/// An event that carries nothing.
-fn on(context: &str, event: u32, answer: &str) {
-    gstep(
-        context,
-        &format!("{event} 0 00000000 0 -"),
-        &format!("{answer} 0"),
-    );
-}
-
-fn no_step(context: &str, event: u32) {
-    on(context, event, &format!("3 {context} 0 -"));
+fn steps(lines: &[&str]) {
+    lines.iter().for_each(|line| step(line));
 }
 
 /// Event; then answer, context, actions, reply and reason, which lead on.
@@ -151,37 +149,22 @@ fn status_then_termination_request() {
         "13 11 1 5 0a0b0c0d 0 1 6",
         "9 8 0 5 0a0b0c0d 0 1 6",
     ] {
-        on(context, 35, &format!("0 6 15 4 5 0a0b0c0d 8 1 0 0 {both}"));
+        let asked = format!("0 6 15 4 5 0a0b0c0d 8 1 0 0 {both}");
+        step(&format!("{context} | on 35 | {asked}"));
     }
-    // Receive mode asked for: U2wr, call state 7, without U-ATT; action 4 stays.
-    on(
-        "12 11 0 5 0a0b0c0d 0 2 6",
-        32,
-        "0 6 15 4 5 0a0b0c0d 9 2 0 4 d0.38.01.9e.a7.bb.d0.35.0a0b0c0d",
-    );
-    // One of them alone.
-    on(
-        "8 8 0 5 0a0b0c0d 0 1 2",
-        32,
-        "0 9 14 0 5 0a0b0c0d 0 1 0 4 50.38.01.9e.a7.bb",
-    );
-    on(
-        "8 8 0 5 0a0b0c0d 0 1 4",
-        32,
-        "0 6 15 4 5 0a0b0c0d 9 1 0 4 50.35.0a0b0c0d",
-    );
-    // The row's own message first: SETUP, then STATUS in U1.
-    on(
-        "1 8 8 5 0a0b0c0d 0 1 2",
-        6,
-        "0 2 12 0 5 0a0b0c0d 0 1 0 0 50.32.0a0b0c0d.50.38.01.9e.a1.b3",
-    );
-    // Joined on a dedicated link.
-    on(
-        "5 0 2 5 0a0b0c0d 0 2 2",
-        35,
-        "0 8 7 0 5 0a0b0c0d 0 2 0 1 d0.38.01.9e.a2.be",
-    );
+    steps(&[
+        // Receive mode asked for: U2wr, call state 7, without U-ATT; action 4 stays.
+        "12 11 0 5 0a0b0c0d 0 2 6 | on 32 | 0 6 15 4 5 0a0b0c0d 9 2 0 4 \
+         d0.38.01.9e.a7.bb.d0.35.0a0b0c0d",
+        // One of them alone.
+        "8 8 0 5 0a0b0c0d 0 1 2 | on 32 | 0 9 14 0 5 0a0b0c0d 0 1 0 4 50.38.01.9e.a7.bb",
+        "8 8 0 5 0a0b0c0d 0 1 4 | on 32 | 0 6 15 4 5 0a0b0c0d 9 1 0 4 50.35.0a0b0c0d",
+        // The row's own message first: SETUP, then STATUS in U1.
+        "1 8 8 5 0a0b0c0d 0 1 2 | on 6 | 0 2 12 0 5 0a0b0c0d 0 1 0 0 \
+         50.32.0a0b0c0d.50.38.01.9e.a1.b3",
+        // Joined on a dedicated link.
+        "5 0 2 5 0a0b0c0d 0 2 2 | on 35 | 0 8 7 0 5 0a0b0c0d 0 2 0 1 d0.38.01.9e.a2.be",
+    ]);
 }
 
 #[test]
@@ -198,112 +181,52 @@ fn set_parameter_lets_out_what_was_pending() {
     ] {
         let set = context.replacen(" 8 ", " 4 ", 1);
         let status = format!("0 {set} 0 0 50.38.01.9e.{state}.b2");
-        hear(&format!("{context} 2"), "d0.3a.02", &status);
+        step(&format!("{context} 2 | hear d0.3a.02 | {status}"));
         // COMM still false: it waits on.
         let waits = context.replacen(" 8 ", " 0 ", 1);
-        hear(
-            &format!("{context} 2"),
-            "d0.3a.00",
-            &format!("0 {waits} 2 0 -"),
-        );
+        step(&format!("{context} 2 | hear d0.3a.00 | 0 {waits} 2 0 -"));
     }
     // A termination from U1: T_MM-est stops, U1 is remembered.
-    hear(
-        "2 8 8 5 0a0b0c0d 0 1 4",
-        "d0.3a.03",
-        "0 6 15 4 5 0a0b0c0d 2 1 0 0 50.35.0a0b0c0d",
-    );
+    step("2 8 8 5 0a0b0c0d 0 1 4 | hear d0.3a.03 | 0 6 15 4 5 0a0b0c0d 2 1 0 0 50.35.0a0b0c0d");
 }
 
 #[test]
 fn without_orig_a_termination_waits_on() {
-    // The cell sets COMM alone: nothing goes out, and it can be deleted.
-    hear(
-        "11 11 0 5 0a0b0c0d 0 1 4",
-        "d0.3a.02",
-        "0 11 4 0 5 0a0b0c0d 0 1 4 0 -",
-    );
-    on(
-        "11 4 0 5 0a0b0c0d 0 1 4",
-        35,
-        "0 8 7 0 5 0a0b0c0d 0 1 4 0 -",
-    );
-    on("8 7 0 5 0a0b0c0d 0 1 4", 36, "0 8 7 0 5 0a0b0c0d 0 1 0 0 -");
-    // ORIG comes back with COMM: now it goes out.
-    hear(
-        "8 7 0 5 0a0b0c0d 0 1 4",
-        "d0.3a.0f",
-        "0 6 15 4 5 0a0b0c0d 8 1 0 0 50.35.0a0b0c0d",
-    );
-    // Another event 4 has no step without ORIG; deleting nothing neither.
-    no_step("8 7 0 5 0a0b0c0d 0 1 4", 4);
-    no_step("8 7 0 5 0a0b0c0d 0 1 0", 36);
-    no_step("11 11 0 5 0a0b0c0d 0 1 2", 36);
+    steps(&[
+        // The cell sets COMM alone: nothing goes out, and it can be deleted.
+        "11 11 0 5 0a0b0c0d 0 1 4 | hear d0.3a.02 | 0 11 4 0 5 0a0b0c0d 0 1 4 0 -",
+        "11 4 0 5 0a0b0c0d 0 1 4 | on 35 | 0 8 7 0 5 0a0b0c0d 0 1 4 0 -",
+        "8 7 0 5 0a0b0c0d 0 1 4 | on 36 | 0 8 7 0 5 0a0b0c0d 0 1 0 0 -",
+        // ORIG comes back with COMM: now it goes out.
+        "8 7 0 5 0a0b0c0d 0 1 4 | hear d0.3a.0f | 0 6 15 4 5 0a0b0c0d 8 1 0 0 50.35.0a0b0c0d",
+        // Another event 4 has no step without ORIG; deleting nothing neither.
+        "8 7 0 5 0a0b0c0d 0 1 4 | on 4 | no step",
+        "8 7 0 5 0a0b0c0d 0 1 0 | on 36 | no step",
+        "11 11 0 5 0a0b0c0d 0 1 2 | on 36 | no step",
+    ]);
 }
 
 #[test]
 fn asking_in_receive_mode_asks_for_the_uplink() {
-    on(
-        "10 10 0 5 0a0b0c0d 0 1 0",
-        4,
-        "0 11 11 0 5 0a0b0c0d 0 1 4 64 -",
-    );
-    hear(
-        "10 10 0 5 0a0b0c0d 0 1 0",
-        "d0.39",
-        "0 11 11 0 5 0a0b0c0d 0 1 2 64 -",
-    );
-    // Again, with it already pending.
-    on(
-        "10 10 0 5 0a0b0c0d 0 1 4",
-        4,
-        "0 11 11 0 5 0a0b0c0d 0 1 4 64 -",
-    );
-    hear(
-        "10 10 0 5 0a0b0c0d 0 1 2",
-        "d0.39",
-        "0 11 11 0 5 0a0b0c0d 0 1 2 64 -",
-    );
-    on(
-        "11 11 0 5 0a0b0c0d 0 1 4",
-        4,
-        "0 11 11 0 5 0a0b0c0d 0 1 4 0 -",
-    );
-    // Without a channel it waits there.
-    on(
-        "13 11 1 5 0a0b0c0d 0 1 0",
-        4,
-        "0 13 11 1 5 0a0b0c0d 0 1 4 0 -",
-    );
-    hear(
-        "13 11 1 5 0a0b0c0d 0 1 0",
-        "d0.39",
-        "0 13 11 1 5 0a0b0c0d 0 1 2 0 -",
-    );
-    // A status waits in every state but U0, for listeners too.
-    hear(
-        "4 0 0 5 0a0b0c0d 0 2 0",
-        "50.39",
-        "0 4 0 0 5 0a0b0c0d 0 2 2 0 -",
-    );
-    hear(
-        "5 0 2 5 0a0b0c0d 0 2 0",
-        "50.39",
-        "0 5 0 2 5 0a0b0c0d 0 2 2 0 -",
-    );
-    hear(
-        "1 8 8 5 0a0b0c0d 0 1 0",
-        "d0.39",
-        "0 1 8 8 5 0a0b0c0d 0 1 2 0 -",
-    );
-    hear(
-        "6 8 4 5 0a0b0c0d 12 1 0",
-        "d0.39",
-        "0 6 8 4 5 0a0b0c0d 12 1 2 0 -",
-    );
-    ignored("0 0 0 0 00000000 0 0 0", "80.39", 1);
-    // A faulty one is reported, so without COMM ignored; one for another too.
-    ignored("4 0 0 5 0a0b0c0d 0 2 0", "50.39.05", 6);
+    steps(&[
+        "10 10 0 5 0a0b0c0d 0 1 0 | on 4 | 0 11 11 0 5 0a0b0c0d 0 1 4 64 -",
+        "10 10 0 5 0a0b0c0d 0 1 0 | hear d0.39 | 0 11 11 0 5 0a0b0c0d 0 1 2 64 -",
+        // Again, with it already pending.
+        "10 10 0 5 0a0b0c0d 0 1 4 | on 4 | 0 11 11 0 5 0a0b0c0d 0 1 4 64 -",
+        "10 10 0 5 0a0b0c0d 0 1 2 | hear d0.39 | 0 11 11 0 5 0a0b0c0d 0 1 2 64 -",
+        "11 11 0 5 0a0b0c0d 0 1 4 | on 4 | 0 11 11 0 5 0a0b0c0d 0 1 4 0 -",
+        // Without a channel it waits there.
+        "13 11 1 5 0a0b0c0d 0 1 0 | on 4 | 0 13 11 1 5 0a0b0c0d 0 1 4 0 -",
+        "13 11 1 5 0a0b0c0d 0 1 0 | hear d0.39 | 0 13 11 1 5 0a0b0c0d 0 1 2 0 -",
+        // A status waits in every state but U0, for listeners too.
+        "4 0 0 5 0a0b0c0d 0 2 0 | hear 50.39 | 0 4 0 0 5 0a0b0c0d 0 2 2 0 -",
+        "5 0 2 5 0a0b0c0d 0 2 0 | hear 50.39 | 0 5 0 2 5 0a0b0c0d 0 2 2 0 -",
+        "1 8 8 5 0a0b0c0d 0 1 0 | hear d0.39 | 0 1 8 8 5 0a0b0c0d 0 1 2 0 -",
+        "6 8 4 5 0a0b0c0d 12 1 0 | hear d0.39 | 0 6 8 4 5 0a0b0c0d 12 1 2 0 -",
+        "0 0 0 0 00000000 0 0 0 | hear 80.39 | ignored 1",
+        // A faulty one is reported, so without COMM ignored; one for another too.
+        "4 0 0 5 0a0b0c0d 0 2 0 | hear 50.39.05 | ignored 6",
+    ]);
     gstep(
         "4 0 0 5 0a0b0c0d 0 2 0",
         "18 0 00000000 1 50.39.17.01.29",
@@ -313,134 +236,70 @@ fn asking_in_receive_mode_asks_for_the_uplink() {
 
 #[test]
 fn connect_says_who_the_originator_is() {
-    hear(
-        "2 12 8 5 0a0b0c0d 0 1 0",
-        "d0.33.01020304.01",
-        "0 8 15 0 5 01020304 0 1 0 32 -",
-    );
-    hear(
-        "2 12 8 5 0a0b0c0d 0 1 0",
-        "d0.33.01020304.fe",
-        "0 8 7 0 5 01020304 0 1 0 32 -",
-    );
-    hear(
-        "2 12 0 5 0a0b0c0d 0 1 0",
-        "d0.33.01020304.00",
-        "0 8 7 0 5 01020304 0 1 0 0 -",
-    );
-    hear(
-        "1 8 8 5 0a0b0c0d 0 1 0",
-        "d0.33.01020304.01",
-        "0 8 15 0 5 01020304 0 1 0 0 -",
-    );
-    // What waited in U1 goes out in U2sl, with CONNECT's reference; 32 stays.
-    hear(
-        "2 8 8 5 0a0b0c0d 0 1 6",
-        "d0.33.01020304.01",
-        "0 6 15 4 5 01020304 8 1 0 32 50.38.01.9e.a2.bf.50.35.01020304",
-    );
-    // Not the originator: the termination waits on.
-    hear(
-        "2 8 0 5 0a0b0c0d 0 1 6",
-        "d0.33.01020304.00",
-        "0 8 7 0 5 01020304 0 1 4 0 50.38.01.9e.a2.be",
-    );
+    steps(&[
+        "2 12 8 5 0a0b0c0d 0 1 0 | hear d0.33.01020304.01 | 0 8 15 0 5 01020304 0 1 0 32 -",
+        "2 12 8 5 0a0b0c0d 0 1 0 | hear d0.33.01020304.fe | 0 8 7 0 5 01020304 0 1 0 32 -",
+        "2 12 0 5 0a0b0c0d 0 1 0 | hear d0.33.01020304.00 | 0 8 7 0 5 01020304 0 1 0 0 -",
+        "1 8 8 5 0a0b0c0d 0 1 0 | hear d0.33.01020304.01 | 0 8 15 0 5 01020304 0 1 0 0 -",
+        // What waited in U1 goes out in U2sl, with CONNECT's reference; 32 stays.
+        "2 8 8 5 0a0b0c0d 0 1 6 | hear d0.33.01020304.01 | 0 6 15 4 5 01020304 8 1 0 32 \
+         50.38.01.9e.a2.bf.50.35.01020304",
+        // Not the originator: the termination waits on.
+        "2 8 0 5 0a0b0c0d 0 1 6 | hear d0.33.01020304.00 | 0 8 7 0 5 01020304 0 1 4 0 \
+         50.38.01.9e.a2.be",
+    ]);
 }
 
 #[test]
 fn the_flag_follows_the_chooser() {
-    // U2sl with ORIG false: flag 1 if we chose, 0 if the cell did; U5 too.
-    hear(
-        "8 7 0 5 0a0b0c0d 0 1 0",
-        "d0.39",
-        "0 8 7 0 5 0a0b0c0d 0 1 0 0 50.38.01.9e.a2.be",
-    );
-    ignored("8 7 0 5 0a0b0c0d 0 1 0", "50.39", 4);
-    hear(
-        "8 15 0 5 0a0b0c0d 0 2 0",
-        "50.39",
-        "0 8 15 0 5 0a0b0c0d 0 2 0 0 d0.38.01.9e.a2.bf",
-    );
-    ignored("8 15 0 5 0a0b0c0d 0 2 0", "d0.39", 4);
-    hear(
-        "6 15 4 5 0a0b0c0d 9 2 0",
-        "50.39",
-        "0 6 15 4 5 0a0b0c0d 9 2 0 0 d0.38.01.9e.a5.bf",
-    );
-    ignored("6 15 4 5 0a0b0c0d 9 2 0", "d0.39", 4);
-    // Discriminator 1 is another protocol.
-    ignored("8 15 0 5 0a0b0c0d 0 1 0", "d1.39", 3);
-    ignored("8 15 0 5 0a0b0c0d 0 1 0", "d0", 2);
+    steps(&[
+        // U2sl with ORIG false: flag 1 if we chose, 0 if the cell did; U5 too.
+        "8 7 0 5 0a0b0c0d 0 1 0 | hear d0.39 | 0 8 7 0 5 0a0b0c0d 0 1 0 0 50.38.01.9e.a2.be",
+        "8 7 0 5 0a0b0c0d 0 1 0 | hear 50.39 | ignored 4",
+        "8 15 0 5 0a0b0c0d 0 2 0 | hear 50.39 | 0 8 15 0 5 0a0b0c0d 0 2 0 0 d0.38.01.9e.a2.bf",
+        "8 15 0 5 0a0b0c0d 0 2 0 | hear d0.39 | ignored 4",
+        "6 15 4 5 0a0b0c0d 9 2 0 | hear 50.39 | 0 6 15 4 5 0a0b0c0d 9 2 0 0 d0.38.01.9e.a5.bf",
+        "6 15 4 5 0a0b0c0d 9 2 0 | hear d0.39 | ignored 4",
+        // Discriminator 1 is another protocol.
+        "8 15 0 5 0a0b0c0d 0 1 0 | hear d1.39 | ignored 3",
+        "8 15 0 5 0a0b0c0d 0 1 0 | hear d0 | ignored 2",
+    ]);
 }
 
 #[test]
 fn the_next_message_tells_the_value() {
-    // Asking for the uplink without ORIG; with it nothing is awaited.
-    on(
-        "10 2 0 5 0a0b0c0d 0 2 0",
-        33,
-        "0 11 3 0 5 0a0b0c0d 0 2 1 64 -",
-    );
-    on(
-        "9 6 0 5 0a0b0c0d 0 1 0",
-        33,
-        "0 11 3 0 5 0a0b0c0d 0 1 1 64 -",
-    );
-    on(
-        "10 10 0 5 0a0b0c0d 0 2 0",
-        33,
-        "0 11 11 0 5 0a0b0c0d 0 2 0 64 -",
-    );
+    steps(&[
+        // Asking for the uplink without ORIG; with it nothing is awaited.
+        "10 2 0 5 0a0b0c0d 0 2 0 | on 33 | 0 11 3 0 5 0a0b0c0d 0 2 1 64 -",
+        "9 6 0 5 0a0b0c0d 0 1 0 | on 33 | 0 11 3 0 5 0a0b0c0d 0 1 1 64 -",
+        "10 10 0 5 0a0b0c0d 0 2 0 | on 33 | 0 11 11 0 5 0a0b0c0d 0 2 0 64 -",
+    ]);
     // Any value 0 to 6 with the flag; it lasts into other sub-states.
     for (first, value) in [("00", 0), ("30", 3), ("50", 5), ("60", 6)] {
         let set = format!("0 12 3 0 {value} 0a0b0c0d 0 2 0 0 -");
-        hear("12 3 0 5 0a0b0c0d 0 2 1", &format!("{first}.3a.0c"), &set);
+        step(&format!(
+            "12 3 0 5 0a0b0c0d 0 2 1 | hear {first}.3a.0c | {set}"
+        ));
     }
-    ignored("12 3 0 5 0a0b0c0d 0 2 1", "70.3a.0c", 4);
-    ignored("12 3 0 5 0a0b0c0d 0 2 1", "b0.3a.0c", 4);
-    hear(
-        "11 3 0 5 0a0b0c0d 0 1 1",
-        "b0.39",
-        "0 11 3 0 3 0a0b0c0d 0 1 2 0 -",
-    );
-    ignored("11 3 0 5 0a0b0c0d 0 1 1", "30.39", 4);
-    // Ignored or reported: it is awaited on. The STATUS has the value received.
-    ignored("11 3 0 5 0a0b0c0d 0 2 1", "30.00", 6);
-    hear(
-        "8 7 0 5 0a0b0c0d 0 2 1",
-        "30.00",
-        "2 8 7 0 5 0a0b0c0d 0 2 1 0 b0.38.03.e1.3000.a2.be",
-    );
-    ignored("13 3 1 5 0a0b0c0d 0 2 1", "30.3a.02", 6);
-    // Taken with COMM true: the answer has the value received too.
-    hear(
-        "8 7 0 5 0a0b0c0d 0 2 1",
-        "30.39",
-        "0 8 7 0 3 0a0b0c0d 0 2 0 0 b0.38.01.9e.a2.be",
-    );
-    // In receive mode GET STATUS is told the value, then awaits the next.
-    hear(
-        "10 2 0 5 0a0b0c0d 0 2 1",
-        "30.39",
-        "0 11 3 0 3 0a0b0c0d 0 2 3 64 -",
-    );
-    // ORIG set: nothing is awaited any more.
-    hear(
-        "11 3 0 5 0a0b0c0d 0 2 1",
-        "30.3a.0d",
-        "0 11 11 0 3 0a0b0c0d 0 2 0 0 -",
-    );
-    hear(
-        "11 3 0 5 0a0b0c0d 0 2 1",
-        "30.34.01.90",
-        "0 0 0 0 0 00000000 0 0 0 17 -",
-    );
-    // Due by an event: the context's own value, and it is awaited on.
-    on(
-        "12 3 0 5 0a0b0c0d 0 2 3",
-        35,
-        "0 8 7 0 5 0a0b0c0d 0 2 1 0 d0.38.01.9e.a2.be",
-    );
+    steps(&[
+        "12 3 0 5 0a0b0c0d 0 2 1 | hear 70.3a.0c | ignored 4",
+        "12 3 0 5 0a0b0c0d 0 2 1 | hear b0.3a.0c | ignored 4",
+        "11 3 0 5 0a0b0c0d 0 1 1 | hear b0.39 | 0 11 3 0 3 0a0b0c0d 0 1 2 0 -",
+        "11 3 0 5 0a0b0c0d 0 1 1 | hear 30.39 | ignored 4",
+        // Ignored or reported: it is awaited on. The STATUS has the value received.
+        "11 3 0 5 0a0b0c0d 0 2 1 | hear 30.00 | ignored 6",
+        "8 7 0 5 0a0b0c0d 0 2 1 | hear 30.00 | 2 8 7 0 5 0a0b0c0d 0 2 1 0 b0.38.03.e1.3000.a2.be",
+        "13 3 1 5 0a0b0c0d 0 2 1 | hear 30.3a.02 | ignored 6",
+        // Taken with COMM true: the answer has the value received too.
+        "8 7 0 5 0a0b0c0d 0 2 1 | hear 30.39 | 0 8 7 0 3 0a0b0c0d 0 2 0 0 b0.38.01.9e.a2.be",
+        // In receive mode GET STATUS is told the value, then awaits the next.
+        "10 2 0 5 0a0b0c0d 0 2 1 | hear 30.39 | 0 11 3 0 3 0a0b0c0d 0 2 3 64 -",
+        // ORIG set: nothing is awaited any more.
+        "11 3 0 5 0a0b0c0d 0 2 1 | hear 30.3a.0d | 0 11 11 0 3 0a0b0c0d 0 2 0 0 -",
+        "11 3 0 5 0a0b0c0d 0 2 1 | hear 30.34.01.90 | 0 0 0 0 0 00000000 0 0 0 17 -",
+        // Due by an event: the context's own value, and it is awaited on.
+        "12 3 0 5 0a0b0c0d 0 2 3 | on 35 | 0 8 7 0 5 0a0b0c0d 0 2 1 0 d0.38.01.9e.a2.be",
+    ]);
 }
 
 /// U5 with these parameters, having asked from there, and pending.
@@ -448,9 +307,10 @@ fn u5(parameters: u8, from: u8, pending: u8) -> String {
     format!("6 {parameters} 4 5 0a0b0c0d {from} 1 {pending}")
 }
 
+const REJECT: &str = "d0.36.98.00.00.00";
+
 #[test]
 fn a_reject_leads_back_to_five_places() {
-    const REJECT: &str = "d0.36.98.00.00.00";
     for parameters in 0..=15u8 {
         let (orig, comm) = (parameters & 8, parameters & 4);
         let awaits = u8::from(orig == 0);
@@ -463,39 +323,36 @@ fn a_reject_leads_back_to_five_places() {
             (12, orig + comm + 3, 0),
         ] {
             let back = format!("0 {from} {row} 0 5 0a0b0c0d 0 1 {pending} 1 -");
-            hear(&u5(parameters, from, 0), REJECT, &back);
+            step(&format!(
+                "{} | hear {REJECT} | {back}",
+                u5(parameters, from, 0)
+            ));
         }
     }
-    // A status that waits goes out where the row has COMM, and waits on elsewhere.
-    hear(
-        &u5(8, 2, 2),
-        REJECT,
-        "0 2 12 0 5 0a0b0c0d 0 1 0 1 50.38.01.9e.a1.b3",
-    );
-    hear(
-        &u5(8, 8, 2),
-        REJECT,
-        "0 8 15 0 5 0a0b0c0d 0 1 0 1 50.38.01.9e.a2.bf",
-    );
-    hear(
-        &u5(0, 8, 2),
-        REJECT,
-        "0 8 7 0 5 0a0b0c0d 0 1 0 1 50.38.01.9e.a2.be",
-    );
-    hear(
-        &u5(0, 9, 2),
-        REJECT,
-        "0 9 6 0 5 0a0b0c0d 0 1 0 1 50.38.01.9e.a7.ba",
-    );
-    hear(&u5(8, 11, 2), REJECT, "0 11 11 0 5 0a0b0c0d 0 1 2 1 -");
-    hear(&u5(0, 11, 2), REJECT, "0 11 3 0 5 0a0b0c0d 0 1 3 1 -");
-    hear(&u5(8, 12, 2), REJECT, "0 12 11 0 5 0a0b0c0d 0 1 2 1 -");
     // Without T_MM-est: 7 and 14 have no step in U1 then.
-    no_step("2 12 0 5 0a0b0c0d 0 1 0", 7);
-    no_step("2 12 0 5 0a0b0c0d 0 1 0", 14);
+    for event in [7, 14] {
+        step(&format!("2 12 0 5 0a0b0c0d 0 1 0 | on {event} | no step"));
+    }
     // Mode changes in U5 have no step; what is remembered stays.
     for event in [4, 11, 12, 13, 32, 33, 34, 35, 36] {
-        no_step(&u5(15, 9, 0), event);
+        step(&format!("{} | on {event} | no step", u5(15, 9, 0)));
+    }
+}
+
+#[test]
+fn a_status_waits_for_a_reject() {
+    // It goes out where the row has COMM, and waits on elsewhere.
+    for (parameters, from, back) in [
+        (8, 2, "2 12 0 5 0a0b0c0d 0 1 0 1 50.38.01.9e.a1.b3"),
+        (8, 8, "8 15 0 5 0a0b0c0d 0 1 0 1 50.38.01.9e.a2.bf"),
+        (0, 8, "8 7 0 5 0a0b0c0d 0 1 0 1 50.38.01.9e.a2.be"),
+        (0, 9, "9 6 0 5 0a0b0c0d 0 1 0 1 50.38.01.9e.a7.ba"),
+        (8, 11, "11 11 0 5 0a0b0c0d 0 1 2 1 -"),
+        (0, 11, "11 3 0 5 0a0b0c0d 0 1 3 1 -"),
+        (8, 12, "12 11 0 5 0a0b0c0d 0 1 2 1 -"),
+    ] {
+        let waits = u5(parameters, from, 2);
+        step(&format!("{waits} | hear {REJECT} | 0 {back}"));
     }
 }
 
@@ -508,11 +365,8 @@ fn asking_remembers_where() {
         ("11 15 0 5 0a0b0c0d 0 1 0", 11),
         ("12 15 0 5 0a0b0c0d 0 1 0", 12),
     ] {
-        on(
-            context,
-            4,
-            &format!("0 {} 0 50.35.0a0b0c0d", u5(15, from, 0)),
-        );
+        let asked = u5(15, from, 0);
+        step(&format!("{context} | on 4 | 0 {asked} 0 50.35.0a0b0c0d"));
     }
 }
 
@@ -534,11 +388,10 @@ fn a_termination_reject_has_four_octets() {
         expect(&format!("gwrite 255 1 5 termination_reject {cause}"), "4");
     }
     // Its like in a broadcast call is reported here, cause 96; TERMINATION is as before.
-    hear(
-        &u5(15, 8, 0),
-        "d0.36.01.98",
-        &format!("2 {} 0 50.38.05.e0.d0360198.a5.bf", u5(15, 8, 0)),
-    );
+    let u5 = u5(15, 8, 0);
+    step(&format!(
+        "{u5} | hear d0.36.01.98 | 2 {u5} 0 50.38.05.e0.d0360198.a5.bf"
+    ));
     expect("gread d0.34.01.90", "0 1 5 termination 90");
     expect("gread d1.34.01.90", "13 2");
     expect("read d0.34.01.90", "13 2");
@@ -547,52 +400,54 @@ fn a_termination_reject_has_four_octets() {
     expect("gwrite 255 0 7 setup 01020304", "4");
 }
 
+const NOT_FIT: [&str; 36] = [
+    // No state, or one of the other protocol; no chooser.
+    "3 15 0 5 0a0b0c0d 0 1 0",
+    "7 2 0 5 0a0b0c0d 0 2 0",
+    "14 0 0 5 0a0b0c0d 0 2 0",
+    "255 0 0 5 0a0b0c0d 0 2 0",
+    "8 15 0 5 0a0b0c0d 0 3 0",
+    "8 15 0 5 0a0b0c0d 0 255 0",
+    // The chooser does not go with the state, nor with what is remembered.
+    "8 15 0 5 0a0b0c0d 0 0 0",
+    "0 0 0 0 00000000 0 1 0",
+    "1 8 8 5 0a0b0c0d 0 2 0",
+    "2 12 0 5 0a0b0c0d 0 2 0",
+    "4 0 0 5 0a0b0c0d 0 1 0",
+    "5 0 2 5 0a0b0c0d 0 1 0",
+    "6 15 4 5 0a0b0c0d 2 2 0",
+    "6 15 4 5 0a0b0c0d 8 0 0",
+    // Remembered from where nothing is asked, or outside U5.
+    "6 15 4 5 0a0b0c0d 0 1 0",
+    "6 15 4 5 0a0b0c0d 3 1 0",
+    "6 15 4 5 0a0b0c0d 10 1 0",
+    "6 15 4 5 0a0b0c0d 13 1 0",
+    "6 15 4 5 0a0b0c0d 14 1 0",
+    "8 15 0 5 0a0b0c0d 8 1 0",
+    // U2nc without its timer, others with it; U3 has none.
+    "13 3 0 5 0a0b0c0d 0 1 0",
+    "12 3 1 5 0a0b0c0d 0 1 0",
+    "4 0 1 5 0a0b0c0d 0 2 0",
+    // COMM in U2r and U2nc.
+    "10 6 0 5 0a0b0c0d 0 1 0",
+    "13 7 1 5 0a0b0c0d 0 1 0",
+    // Pending what could be sent, or where it cannot be.
+    "8 15 0 5 0a0b0c0d 0 1 4",
+    "8 7 0 5 0a0b0c0d 0 1 2",
+    "8 15 0 5 0a0b0c0d 0 1 1",
+    "1 8 8 5 0a0b0c0d 0 1 4",
+    "4 0 0 5 0a0b0c0d 0 2 4",
+    "4 0 0 5 0a0b0c0d 0 2 1",
+    "6 8 4 5 0a0b0c0d 8 1 4",
+    "6 0 4 5 0a0b0c0d 8 1 1",
+    "2 0 0 5 0a0b0c0d 0 1 1",
+    "0 0 0 0 00000000 0 0 2",
+    "8 15 0 7 0a0b0c0d 0 1 0",
+];
+
 #[test]
 fn contexts_that_are_not_fit() {
-    for context in [
-        // No state, or one of the other protocol; no chooser.
-        "3 15 0 5 0a0b0c0d 0 1 0",
-        "7 2 0 5 0a0b0c0d 0 2 0",
-        "14 0 0 5 0a0b0c0d 0 2 0",
-        "255 0 0 5 0a0b0c0d 0 2 0",
-        "8 15 0 5 0a0b0c0d 0 3 0",
-        "8 15 0 5 0a0b0c0d 0 255 0",
-        // The chooser does not go with the state, nor with what is remembered.
-        "8 15 0 5 0a0b0c0d 0 0 0",
-        "0 0 0 0 00000000 0 1 0",
-        "1 8 8 5 0a0b0c0d 0 2 0",
-        "2 12 0 5 0a0b0c0d 0 2 0",
-        "4 0 0 5 0a0b0c0d 0 1 0",
-        "5 0 2 5 0a0b0c0d 0 1 0",
-        "6 15 4 5 0a0b0c0d 2 2 0",
-        "6 15 4 5 0a0b0c0d 8 0 0",
-        // Remembered from where nothing is asked, or outside U5.
-        "6 15 4 5 0a0b0c0d 0 1 0",
-        "6 15 4 5 0a0b0c0d 3 1 0",
-        "6 15 4 5 0a0b0c0d 10 1 0",
-        "6 15 4 5 0a0b0c0d 13 1 0",
-        "6 15 4 5 0a0b0c0d 14 1 0",
-        "8 15 0 5 0a0b0c0d 8 1 0",
-        // U2nc without its timer, others with it; U3 has none.
-        "13 3 0 5 0a0b0c0d 0 1 0",
-        "12 3 1 5 0a0b0c0d 0 1 0",
-        "4 0 1 5 0a0b0c0d 0 2 0",
-        // COMM in U2r and U2nc.
-        "10 6 0 5 0a0b0c0d 0 1 0",
-        "13 7 1 5 0a0b0c0d 0 1 0",
-        // Pending what could be sent, or where it cannot be.
-        "8 15 0 5 0a0b0c0d 0 1 4",
-        "8 7 0 5 0a0b0c0d 0 1 2",
-        "8 15 0 5 0a0b0c0d 0 1 1",
-        "1 8 8 5 0a0b0c0d 0 1 4",
-        "4 0 0 5 0a0b0c0d 0 2 4",
-        "4 0 0 5 0a0b0c0d 0 2 1",
-        "6 8 4 5 0a0b0c0d 8 1 4",
-        "6 0 4 5 0a0b0c0d 8 1 1",
-        "2 0 0 5 0a0b0c0d 0 1 1",
-        "0 0 0 0 00000000 0 0 2",
-        "8 15 0 7 0a0b0c0d 0 1 0",
-    ] {
+    for context in NOT_FIT {
         let refused = format!("7 {context} 0 - 0");
         gstep(context, "9 0 00000000 0 -", &refused);
         expect(
@@ -600,35 +455,24 @@ fn contexts_that_are_not_fit() {
             &refused,
         );
     }
-    // More timers or more pending than there are is no command.
-    expect(
-        "gstep 0 0 16 0 00000000 0 0 0 3 3359a2 29f1 255 9 0 00000000 0 -",
-        "?",
-    );
-    expect(
-        "gstep 0 0 0 0 00000000 0 0 8 3 3359a2 29f1 255 9 0 00000000 0 -",
-        "?",
-    );
-    expect(
-        "gstep 0 0 0 0 00000000 0 256 0 3 3359a2 29f1 255 9 0 00000000 0 -",
-        "?",
-    );
-    expect(
-        "gstep 0 0 0 0 00000000 0 0 3 3359a2 29f1 255 9 0 00000000 0 -",
-        "?",
-    );
+    // More timers or pending than there are, a chooser of 256, a token too few: no command.
+    for context in [
+        "0 0 16 0 00000000 0 0 0",
+        "0 0 0 0 00000000 0 0 8",
+        "0 0 0 0 00000000 0 256 0",
+        "0 0 0 0 00000000 0 0",
+    ] {
+        gstep(context, "9 0 00000000 0 -", "?");
+    }
 }
 
 #[test]
 fn events_that_are_none() {
     for event in [0, 19, 20, 31, 37, 255, 256 + 32] {
-        on(
-            "8 15 0 5 0a0b0c0d 0 1 0",
-            event,
-            "4 8 15 0 5 0a0b0c0d 0 1 0 0 -",
-        );
+        let context = "8 15 0 5 0a0b0c0d 0 1 0";
+        step(&format!("{context} | on {event} | 4 {context} 0 -"));
     }
     for context in ["8 15 0 5 0a0b0c0d 0 1 0", "13 11 1 5 0a0b0c0d 0 2 4"] {
-        no_step(context, 13);
+        step(&format!("{context} | on 13 | no step"));
     }
 }

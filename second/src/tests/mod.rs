@@ -24,6 +24,8 @@ mod steps;
 mod tables;
 mod vectors;
 
+use std::collections::BTreeSet;
+
 /// Asks one command and compares its answer. Dots part octets for the eye alone.
 pub fn expect(command: &str, answer: &str) {
     let line = command.replace('.', "");
@@ -53,4 +55,30 @@ fn step_with_reason(context: &str, event: &str, answer: &str, reason: u8) {
 /// The cleared context with answer 0 and these actions, in the form of an answer.
 pub fn cleared(actions: u8) -> String {
     format!("0 0 0 0 0 00000000 0 {actions} -")
+}
+
+/// Of each word all answer numbers that there are, as `reached` tells them: both
+/// what is made by chance and the fixed sets come to each of them.
+pub const ANSWERS: [(&str, &str); 10] = [
+    ("read", "0 13 6 ?"),
+    ("write", "0 4 5 ?"),
+    ("step", "0 1 2 3 4 5 6 7 ?"),
+    ("settings", "0 12 ?"),
+    ("judge", "0 10 4 8 9 ?"),
+    ("record", "0 10 11 4 ?"),
+    ("gread", "0 13 6 ?"),
+    ("gwrite", "0 4 5 ?"),
+    ("gstep", "0 1 2 3 4 5 6 7 ?"),
+    ("grecord", "0 10 11 4 ?"),
+];
+
+/// The answer numbers that these commands come to, each once, in order.
+pub fn reached(lines: &[String]) -> String {
+    let answers = lines
+        .iter()
+        .map(|line| crate::probe::answer(line.as_bytes()));
+    let numbers: BTreeSet<String> = answers
+        .map(|answer| answer.split(' ').next().unwrap().to_string())
+        .collect();
+    numbers.into_iter().collect::<Vec<String>>().join(" ")
 }

@@ -1,5 +1,6 @@
 //! The fixed sets show every answer and every row, and are not too long.
 
+use super::{reached, ANSWERS};
 use crate::probe::answer;
 use crate::state::{State, BROADCAST_STATES};
 use crate::step::table::{Next, Trigger};
@@ -7,38 +8,13 @@ use crate::tables::Table;
 use crate::vectors::{lines, SETS};
 use std::collections::{BTreeSet, HashMap};
 
-/// The answer numbers that a word's set comes to, in order.
-fn reached(word: &str) -> Vec<String> {
-    let mut answers: Vec<String> = lines(word)
-        .iter()
-        .map(|line| answer(line.as_bytes()))
-        .map(|line| line.split(' ').next().unwrap().to_string())
-        .collect();
-    answers.sort();
-    answers.dedup();
-    answers
-}
-
 #[test]
 fn every_answer_is_there() {
-    assert_eq!(reached("read"), ["0", "13", "6", "?"]);
-    assert_eq!(reached("write"), ["0", "4", "5", "?"]);
-    assert_eq!(
-        reached("step"),
-        ["0", "1", "2", "3", "4", "5", "6", "7", "?"]
-    );
-    assert_eq!(reached("settings"), ["0", "12", "?"]);
-    assert_eq!(reached("judge"), ["0", "10", "4", "8", "9", "?"]);
-    assert_eq!(reached("record"), ["0", "10", "11", "4", "?"]);
-    assert_eq!(reached("gread"), ["0", "13", "6", "?"]);
-    assert_eq!(reached("gwrite"), ["0", "4", "5", "?"]);
-    assert_eq!(
-        reached("gstep"),
-        ["0", "1", "2", "3", "4", "5", "6", "7", "?"]
-    );
-    assert_eq!(reached("grecord"), ["0", "10", "11", "4", "?"]);
+    for (word, answers) in ANSWERS {
+        assert_eq!(reached(&lines(word)), answers, "{word}");
+    }
     // Length, settings and malformed lines are the other set's.
-    assert_eq!(reached("judge16"), ["0", "8", "9"]);
+    assert_eq!(reached(&lines("judge16")), "0 8 9");
 }
 
 #[test]

@@ -2,9 +2,11 @@
 //! which a message is ignored, arguments on both sides of their ranges, and the
 //! order 7, 5, 6, 4.
 
-use super::group_step::{context, first, plain, received, step, CONTEXTS};
-use super::group_step_pending::asked_timers;
+use super::group_step::{
+    context, context_of, contexts, first, messages, plain, received, start, step, step_in,
+};
 use super::step::OWN;
+use super::step_limits::wrong_at_once;
 use crate::probe::tokens::hexadecimal;
 use crate::state::GROUP_STATES;
 
@@ -17,58 +19,46 @@ pub fn all(lines: &mut Vec<String>) {
     order_of_tests(lines);
 }
 
-/// A context of a state that is fit, with its start row and by us where that may be.
-fn fit(state: u8) -> [u8; 6] {
-    let found = CONTEXTS.into_iter().find(|tokens| tokens[0] == state);
-    found.expect("every state has one")
-}
+/// What each place of a context is tried with; `group_step_pending` has the last.
+const TRIED: [(usize, &[u8]); 4] = [
+    (1, &[0, 1, 2, 3, 4, 5, 6, 7, 8, 9, 10, 11, 12, 13, 14, 15]),
+    (2, &[0, 1, 2, 3, 4, 8, 12, 15]),
+    (3, &[0, 1, 2, 3, 6, 8, 9, 10, 11, 12, 13, 14, 255]),
+    (4, &[0, 1, 2, 3, 255]),
+];
 
 /// In each state one thing at a time: all parameters, sets of timers, everything
-/// remembered, each chooser, everything pending; then what is no state.
+/// remembered, each chooser; in U5 two at a time; then what is no state, no value.
 fn fitness(lines: &mut Vec<String>) {
     for state in GROUP_STATES.map(|state| state.number()) {
-        let [_, row, timers, from, chooser, pending] = fit(state);
-        debug_assert_eq!(timers & !8, asked_timers(state) & !8);
-        let parameters = (0..=15).map(|row| [state, row, timers, from, chooser, pending]);
-        let all_timers =
-            [0, 1, 2, 3, 4, 8, 12, 15].map(|timers| [state, row, timers, from, chooser, pending]);
-        let froms = [0, 1, 2, 3, 6, 8, 9, 10, 11, 12, 13, 14, 255].into_iter();
-        let remembered = froms.map(|from| [state, row, timers, from, chooser, pending]);
-        let choosers = [0, 1, 2, 3, 255].map(|one| [state, row, timers, from, one, pending]);
-        for tokens in parameters
-            .chain(all_timers)
-            .chain(remembered)
-            .chain(choosers)
-        {
-            lines.push(plain(tokens, 9));
+        for (place, tried) in TRIED {
+            for &number in tried {
+                let mut tokens = start(state);
+                tokens[place] = number;
+                lines.push(plain(tokens, 9));
+            }
         }
         if state == 6 {
-            for (from, chooser) in [(2, 0), (2, 1), (2, 2), (8, 0), (8, 1), (8, 2), (12, 2)] {
-                lines.push(plain([state, row, timers, from, chooser, pending], 9));
+            for tokens in contexts("6f4200 6f4210 6f4220 6f4800 6f4810 6f4820 6f4c20") {
+                lines.push(plain(tokens, 9));
             }
         }
     }
     for state in [3, 7, 14, 15, 16, 128, 255] {
-        for rest in [
-            [0, 0, 0, 0, 0],
-            [15, 0, 0, 1, 0],
-            [2, 1, 8, 2, 7],
-            [15, 15, 255, 255, 7],
+        for tokens in [
+            [state, 0, 0, 0, 0, 0],
+            [state, 15, 0, 0, 1, 0],
+            [state, 2, 1, 8, 2, 7],
+            [state, 15, 15, 255, 255, 7],
         ] {
-            let [parameters, timers, from, chooser, pending] = rest;
-            lines.push(plain(
-                [state, parameters, timers, from, chooser, pending],
-                9,
-            ));
+            lines.push(plain(tokens, 9));
         }
     }
     for value in [0, 1, 6, 7, 8, 128, 255] {
-        lines.push(format!(
-            "gstep 8 15 0 {value} 0a0b0c0d 0 1 0 {OWN} 255 5 0 00000000 0 -"
-        ));
-        lines.push(format!(
-            "gstep 11 3 0 {value} 0a0b0c0d 0 2 1 {OWN} 255 5 0 00000000 0 -"
-        ));
+        for tokens in contexts("8f0010 b30021") {
+            let context = context_of(&format!("{value} 0a0b0c0d"), tokens);
+            lines.push(step_in(&context, "5 0 00000000 0 -"));
+        }
     }
 }
 
@@ -87,60 +77,35 @@ fn cleared(lines: &mut Vec<String>) {
         "0 1 0 0 00000000 0 0 0",
         "0 0 1 0 00000000 0 0 0",
     ] {
-        lines.push(format!("gstep {given} {OWN} 255 1 3 01020304 0 -"));
+        lines.push(step_in(given, "1 3 01020304 0 -"));
     }
 }
 
 /// Each reason in each state, COMM false and true, in either mode where it matters.
 fn reasons(lines: &mut Vec<String>) {
-    for tokens in [
-        [0, 0, 0, 0, 0, 0],
-        [1, 8, 8, 0, 1, 0],
-        [2, 8, 0, 0, 1, 0],
-        [2, 12, 0, 0, 1, 0],
-        [8, 11, 0, 0, 1, 0],
-        [8, 7, 0, 0, 2, 0],
-        [9, 2, 0, 0, 2, 0],
-        [10, 2, 0, 0, 2, 0],
-        [11, 3, 0, 0, 2, 1],
-        [12, 3, 0, 0, 1, 0],
-        [13, 3, 1, 0, 2, 0],
-        [4, 0, 0, 0, 2, 0],
-        [5, 0, 2, 0, 2, 0],
-        [6, 8, 4, 12, 1, 0],
-        [6, 15, 4, 2, 1, 0],
-    ] {
+    let all = "000000 188010 280010 2c0010 8b0010 870020 920020 a20020 \
+        b30021 c30010 d31020 400020 502020 684c10 6f4210";
+    for tokens in contexts(all) {
         let ours = first(tokens);
-        for octets in [
-            &[][..],
-            &[ours],
-            &[ours | 1],
-            &[ours | 1, 0x39],
-            &[ours | 2, 0x39],
-            &[ours ^ 0x80, 0x39],
-            &[ours ^ 0x10, 0x39],
-            &[ours ^ 0x91, 0x39],
-            &[ours | 0x70, 0x39],
-            &[ours, 0x00],
-            &[ours, 0x32, 1, 2, 3, 4],
-            &[ours, 0x3A],
-            &[ours, 0x3A, 0x01],
-            &[ours, 0x3A, 0x02],
-            &[ours, 0x33, 1, 2, 3, 4, 0],
-            &[ours, 0x34],
-            &[ours, 0x39, 0x05],
-            &[ours ^ 0x80, 0x00],
-        ] {
+        for octets in [&[][..], &[ours], &[ours | 1]] {
             lines.push(received(tokens, 0, octets));
         }
-        // For another, for us, for another and faulty, for nobody by fault.
-        for rest in [
-            &[0x17, 0x02, 0x29, 0xF2][..],
-            &[0x17, 0x02, 0x29, 0xF1],
-            &[0x17, 0x02, 0x29, 0xF2, 0x05],
-            &[0x17, 0x00],
+        for other in [
+            ours | 1,
+            ours | 2,
+            ours ^ 0x80,
+            ours ^ 0x10,
+            ours ^ 0x91,
+            ours | 0x70,
         ] {
-            let octets = [&[ours, 0x39], rest].concat();
+            lines.push(received(tokens, 0, &[other, 0x39]));
+        }
+        for octets in messages(ours, "00 3201020304 3a 3a01 3a02 330102030400 34 3905") {
+            lines.push(received(tokens, 0, &octets));
+        }
+        lines.push(received(tokens, 0, &[ours ^ 0x80, 0x00]));
+        // For another, for us, for another and faulty, for nobody by fault.
+        for octets in messages(ours, "39170229f2 39170229f1 39170229f205 391700") {
             for mode in [0, 1] {
                 lines.push(received(tokens, mode, &octets));
             }
@@ -179,40 +144,30 @@ fn arguments(lines: &mut Vec<String>) {
                 lines.push(step(tokens, &format!("{event} 0 00000000 0 {octets}")));
             }
         }
+        let mut ask = |rest: String| lines.push(format!("gstep {} {rest}", context(tokens)));
         for own in [
             "7 3359a2 29f1",
             "8 3359a2 29f1",
             "3 3359a2 -",
             "3 3359a2 29",
         ] {
-            let rest = format!("{own} 255 36 0 00000000 0 -");
-            lines.push(format!("gstep {} {rest}", context(tokens)));
+            ask(format!("{own} 255 36 0 00000000 0 -"));
         }
-        for identity in [8, 9] {
-            let identity = hexadecimal(&vec![0x29; identity]);
-            let rest = format!("3 3359a2 {identity} 255 33 0 00000000 0 -");
-            lines.push(format!("gstep {} {rest}", context(tokens)));
+        for length in [8, 9] {
+            let identity = hexadecimal(&vec![0x29; length]);
+            ask(format!("3 3359a2 {identity} 255 33 0 00000000 0 -"));
         }
         for buffer_length in [0, 254, 255, 256, 4_294_967_295u32] {
-            let rest = format!("{OWN} {buffer_length} 35 0 00000000 0 -");
-            lines.push(format!("gstep {} {rest}", context(tokens)));
+            ask(format!("{OWN} {buffer_length} 35 0 00000000 0 -"));
         }
     }
 }
 
 /// All sets of the five things that can be wrong at once.
 fn order_of_tests(lines: &mut Vec<String>) {
-    for set in 0..32 {
-        let wrong = |place: u32| set >> place & 1 == 1;
-        let pending = if wrong(0) { 4 } else { 0 };
-        let buffer_length = if wrong(1) { 254 } else { 255 };
-        let length = if wrong(2) { 252 } else { 251 };
-        let mode = if wrong(3) { 2 } else { 0 };
-        let own = if wrong(4) { "8 3359a2 -" } else { OWN };
-        let octets = hexadecimal(&vec![0x50; length]);
-        lines.push(format!(
-            "gstep {} {own} {buffer_length} 18 0 00000000 {mode} {octets}",
-            context([4, 0, 0, 0, 2, pending])
-        ));
+    for (unfit, rest) in wrong_at_once(0x50) {
+        let pending = if unfit { 4 } else { 0 };
+        let context = context([4, 0, 0, 0, 2, pending]);
+        lines.push(format!("gstep {context} {rest}"));
     }
 }

@@ -2,7 +2,7 @@
 //! ORIG and COMM, when it goes out and in which order; the value that a message
 //! tells; and the places that a rejected termination leads back to.
 
-use super::group_step::{first, plain, received};
+use super::group_step::{contexts, first, messages, plain, received, start};
 
 pub fn all(lines: &mut Vec<String>) {
     pending(lines);
@@ -14,14 +14,11 @@ pub fn all(lines: &mut Vec<String>) {
     rejects_that_are_none(lines);
 }
 
-/// The timers that always run in a state.
-pub fn asked_timers(state: u8) -> u8 {
-    match state {
-        1 => 8,
-        5 => 2,
-        6 => 4,
-        13 => 1,
-        _ => 0,
+/// The timers that always run in a state: in U1, T_MM-est need not.
+fn asked_timers(state: u8) -> u8 {
+    match start(state) {
+        [2, ..] => 0,
+        [_, _, timers, ..] => timers,
     }
 }
 
@@ -77,16 +74,7 @@ fn elsewhere(lines: &mut Vec<String>) {
 /// CONNECT with every octet of the originator indication about 0 and 1, with
 /// what waits in U0.p and U1.
 fn connects(lines: &mut Vec<String>) {
-    for tokens in [
-        [1, 8, 8, 0, 1, 0],
-        [1, 8, 8, 0, 1, 2],
-        [2, 12, 8, 0, 1, 0],
-        [2, 12, 0, 0, 1, 0],
-        [2, 8, 8, 0, 1, 6],
-        [2, 8, 0, 0, 1, 4],
-        [2, 4, 8, 0, 1, 4],
-        [2, 0, 0, 0, 1, 2],
-    ] {
+    for tokens in contexts("188010 188012 2c8010 2c0010 288016 280014 248014 200012") {
         for octet in [0x00, 0x01, 0x02, 0x03, 0x10, 0xFE, 0xFF] {
             lines.push(received(
                 tokens,
@@ -100,35 +88,16 @@ fn connects(lines: &mut Vec<String>) {
 /// Where the value is awaited: each value with each flag; messages that are taken,
 /// reported and ignored; each end of the waiting.
 fn awaiting(lines: &mut Vec<String>) {
-    for tokens in [
-        [8, 7, 0, 0, 2, 1],
-        [9, 6, 0, 0, 1, 1],
-        [10, 2, 0, 0, 2, 1],
-        [11, 3, 0, 0, 1, 1],
-        [11, 3, 0, 0, 2, 3],
-        [12, 3, 0, 0, 2, 7],
-        [13, 3, 1, 0, 2, 1],
-    ] {
+    for tokens in contexts("870021 960011 a20021 b30011 b30023 c30027 d31021") {
         for value in 0..=7 {
             let first = first(tokens) & 0x80 | value << 4;
             lines.push(received(tokens, 0, &[first, 0x39]));
             lines.push(received(tokens, 0, &[first ^ 0x80, 0x39]));
         }
         let other = first(tokens) ^ 0x60;
-        for octets in [
-            &[other, 0x00][..],
-            &[other, 0x32],
-            &[other, 0x3A],
-            &[other, 0x3A, 0x00],
-            &[other, 0x3A, 0x01],
-            &[other, 0x3A, 0x02],
-            &[other, 0x3A, 0x0F],
-            &[other, 0x34, 0x01, 0x90],
-            &[other, 0x36, 0x98, 0x00, 0x00, 0x00],
-            &[other, 0x39, 0x17, 0x01, 0x30],
-            &[other, 0x39, 0x05],
-        ] {
-            lines.push(received(tokens, 0, octets));
+        let words = "00 32 3a 3a00 3a01 3a02 3a0f 340190 3698000000 39170130 3905";
+        for octets in messages(other, words) {
+            lines.push(received(tokens, 0, &octets));
         }
         lines.push(received(tokens, 1, &[other, 0x39, 0x17, 0x01, 0x30]));
         for event in [11, 12, 32, 33, 34, 35, 5, 8] {
@@ -166,19 +135,15 @@ fn rejected(lines: &mut Vec<String>) {
 
 /// Under four octets of cause, faulty behind them, or as a broadcast call has it.
 fn rejects_that_are_none(lines: &mut Vec<String>) {
-    for tokens in [[6, 15, 4, 8, 1, 0], [6, 11, 4, 2, 1, 2]] {
-        for octets in [
-            &[0xD0, 0x36][..],
-            &[0xD0, 0x36, 0x01, 0x98],
-            &[0xD0, 0x36, 0x02, 0x98, 0x00],
-            &[0xD0, 0x36, 0x98, 0x00, 0x00, 0x00, 0x05],
-            &[0xD0, 0x76, 0x98, 0x00, 0x00, 0x00, 0x80],
-            &[0xD0, 0x36, 0x03, 0x98, 0x00, 0x00],
-            &[0xD1, 0x36, 0x98, 0x00, 0x00, 0x00],
-            &[0x50, 0x36, 0x98, 0x00, 0x00, 0x00],
-            &[0xC0, 0x36, 0x98, 0x00, 0x00, 0x00],
-        ] {
-            lines.push(received(tokens, 0, octets));
+    for tokens in contexts("6f4810 6b4212") {
+        let words = "36 360198 36029800 369800000005 769800000080 3603980000";
+        for octets in messages(0xD0, words) {
+            lines.push(received(tokens, 0, &octets));
+        }
+        // Another protocol, the other flag, another value.
+        for first in [0xD1, 0x50, 0xC0] {
+            let reject = [first, 0x36, 0x98, 0x00, 0x00, 0x00];
+            lines.push(received(tokens, 0, &reject));
         }
     }
 }

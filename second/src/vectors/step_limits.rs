@@ -166,18 +166,24 @@ fn message_lengths(lines: &mut Vec<String>) {
     }
 }
 
-/// All sets of the five things that can be wrong at once.
-fn order_of_tests(lines: &mut Vec<String>) {
-    for set in 0..32 {
+/// All sets of the five things that can be wrong at once: whether the context is,
+/// and the rest of the command, with a message of this octet.
+pub fn wrong_at_once(octet: u8) -> impl Iterator<Item = (bool, String)> {
+    (0..32).map(move |set| {
         let wrong = |place: u32| set >> place & 1 == 1;
-        let parameters = if wrong(0) { 4 } else { 0 };
         let buffer_length = if wrong(1) { 254 } else { 255 };
         let length = if wrong(2) { 252 } else { 251 };
         let mode = if wrong(3) { 2 } else { 0 };
         let own = if wrong(4) { "8 3359a2 -" } else { OWN };
-        let octets = hexadecimal(&vec![0x51; length]);
-        lines.push(format!(
-            "step 4 {parameters} 16 5 0a0b0c0d 0 {own} {buffer_length} 18 0 00000000 {mode} {octets}"
-        ));
+        let octets = hexadecimal(&vec![octet; length]);
+        let rest = format!("{own} {buffer_length} 18 0 00000000 {mode} {octets}");
+        (wrong(0), rest)
+    })
+}
+
+fn order_of_tests(lines: &mut Vec<String>) {
+    for (unfit, rest) in wrong_at_once(0x51) {
+        let parameters = if unfit { 4 } else { 0 };
+        lines.push(format!("step 4 {parameters} 16 5 0a0b0c0d 0 {rest}"));
     }
 }

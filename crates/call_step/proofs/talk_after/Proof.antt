@@ -1,4 +1,4 @@
--- `talk_after` meets its contract: what the row notes, then what is awaited.
+-- `talk_after` meets its contract: what is kept after the row.
 use borrow.Author.Needs.{needs}
 use Rattle.call_step.proofs.talk_after.Statement.{statement}
 use Rattle.call_step.proofs.talk_after.Tie as tie
@@ -8,5 +8,4 @@ talk-after-spec =
     tie.close
     (tie.spec
     (λ c κs. search needs)
-    (λ c κs. search needs)
-    (λ c. rw (c .awaiting-after .ensures, c .before .noted .ensures)))
+    (λ c. c .kept-after .ensures))

@@ -1,7 +1,9 @@
 -- `entering` meets its contract: it is the state's row, as far as the state sets it.
 use borrow.Author.Needs.{needs}
-use mathlib.Core.Path.{sym}
+use mathlib.Core.Path.{sym, _∙_}
+use native.Mathlib.Omega.{arith}
 use Rattle.context.specs.Context.{entering}
+use Rattle.context.proofs.States.{sets-all}
 use Rattle.context.proofs.entering.Statement.{statement}
 use Rattle.context.proofs.entering.Tie as tie
 
@@ -12,5 +14,7 @@ entering-spec =
     (tie.spec
     (λ c κs. search needs)
     (λ c κs. search needs)
+    (λ c. c .before .before .start-row .ensures ∙ sets-all _ _ (omega (arith, c .before .state-number .ensures, c .if1 .taken)))
     (λ c κs. search needs)
-    (λ c. rw (sym (c .before .before .start-row .ensures), sym (c .before .set-row .ensures)) (c .set-or-kept .ensures)))
+    (λ c κs. search needs)
+    (λ c. rw (sym (c .before .before .before .before .start-row .ensures), sym (c .before .set-row .ensures)) (c .set-or-kept .ensures)))

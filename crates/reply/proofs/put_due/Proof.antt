@@ -1,9 +1,8 @@
--- `put_due` meets its contract: not due, no room, or six octets copied.
+-- `put_due` meets its contract: not due, or put into the part behind the first octets, where the part has room.
 use borrow.Author.Needs.{needs}
-use Prim.Native.Nat.{ℕ}
 use mathlib.Core.List.{[], _∷_}
-use lib.ListN.{replicate, length-replicate}
-use Rattle.reply.proofs.Pending.{not-due, no-room, copy-fits, due-put}
+use native.Mathlib.Omega.{arith}
+use Rattle.reply.proofs.Pending.{not-due, due-put, due-within}
 use Rattle.reply.proofs.put_due.Statement.{statement}
 use Rattle.reply.proofs.put_due.Tie as tie
 
@@ -16,15 +15,12 @@ put-due-spec =
     (λ c κs. search needs)
     (λ c. search needs)
     (λ c. search needs)
+    (λ c. search needs)
+    (λ c. search needs)
     (λ c κs. search needs)
     (λ c κs. search needs)
+    (λ c. let a = c .before .before .before .before .before .before .before .before .before .args in
+    omega (arith, due-within (a .protocol) (158 ∷ []) (a .context) (a .message) (a .reply .now) (a .at) (a .due) (c .before .before .before .before .before .before .before .if1 .left) (c .before .before .before .before .before .before .before .before .before .pre) _ (c .before .before .before .before .before .before .sender-of .ensures) _ (c .before .before .before .put .ensures .0) _ (c .written-count .ensures) _ (c .before .before .before .put .ensures .1)))
     (λ c. search needs)
     (λ c. let a = c .before .before .before .before .before .before .before .before .before .args in
-    no-room (a .protocol) (158 ∷ []) (a .context) (a .message) (a .reply .now) (a .at) (a .due) (c .before .before .before .before .before .before .before .if1 .left) (c .before .before .before .before .before .before .before .before .before .pre) (replicate {A = ℕ} 6 0) (length-replicate {A = ℕ} 6 0) _ (c .before .before .before .before .before .before .expected-flag .ensures) _ (c .before .before .before .put .ensures .0) _ (c .before .written-count .ensures) (c .if2 .taken))
-    (λ c. search needs)
-    (λ c κs. let a = c .before .before .before .before .before .before .before .before .before .before .before .args in
-    copy-fits (a .protocol) (158 ∷ []) (a .context) (a .message) (a .reply .now) (a .at) (a .due) (c .before .before .before .before .before .before .before .before .before .if1 .left) (c .before .before .before .before .before .before .before .before .before .before .before .pre) (replicate {A = ℕ} 6 0) (length-replicate {A = ℕ} 6 0) _ (c .before .before .before .before .before .before .before .before .expected-flag .ensures) _ (c .before .before .before .before .before .put .ensures .0) _ (c .before .before .before .written-count .ensures) (c .before .before .if2 .left) _ (c .before .before .before .before .before .put .ensures .1))
-    (λ c. search needs)
-    (λ c. search needs)
-    (λ c. let a = c .before .before .before .before .before .before .before .before .before .before .before .before .before .before .args in
-    due-put (a .protocol) (158 ∷ []) (a .context) (a .message) (a .reply .now) (a .at) (a .due) (c .before .before .before .before .before .before .before .before .before .before .before .before .if1 .left) (c .before .before .before .before .before .before .before .before .before .before .before .before .before .before .pre) (replicate {A = ℕ} 6 0) (length-replicate {A = ℕ} 6 0) _ (c .before .before .before .before .before .before .before .before .before .before .before .expected-flag .ensures) _ (c .before .before .before .before .before .before .before .before .put .ensures .0) _ (c .before .before .before .before .before .before .written-count .ensures) (c .before .before .before .before .before .if2 .left) _ _ (c .before .before .before .before .before .before .before .before .put .ensures .1) (c .before .before .copy-to .ensures)))
+    due-put (a .protocol) (158 ∷ []) (a .context) (a .message) (a .reply .now) (a .at) (a .due) (c .before .before .before .before .before .before .before .if1 .left) (c .before .before .before .before .before .before .before .before .before .pre) _ (c .before .before .before .before .before .before .sender-of .ensures) _ (c .before .before .before .put .ensures .0) _ (c .written-count .ensures) _ (c .before .before .before .put .ensures .1)))

@@ -10,9 +10,8 @@ put-message-spec =
     (tie.spec
     (λ c κs. search needs)
     (λ c κs. search needs)
-    (λ c κs. search needs)
     (λ c. search needs)
-    (λ c. let a = c .before .before .before .before .before .before .before .before .args in (
-      put-count (a .protocol) (a .reply .now) (a .source .now) (a .context) (a .message) _ (c .before .before .before .before .before .expected-flag .ensures) _ _ (c .before .before .before .write .ensures .0) (c .written-count .ensures),
-      put-leaves (a .protocol) (a .reply .now) (a .source .now) (a .context) (a .message) _ (c .before .before .before .before .before .expected-flag .ensures) _ (c .before .before .before .write .ensures .1),
+    (λ c. let a = c .before .before .before .before .before .before .before .args in (
+      put-count (a .protocol) (a .reply .now) (a .source .now) (a .sender) (a .message) _ _ (c .before .before .before .write .ensures .0) (c .written-count .ensures),
+      put-leaves (a .protocol) (a .reply .now) (a .source .now) (a .sender) (a .message) _ (c .before .before .before .write .ensures .1),
     )))

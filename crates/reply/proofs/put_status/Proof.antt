@@ -21,5 +21,5 @@ put-status-spec =
     (λ c. search needs)
     (λ c. let a = c .before .before .before .before .before .before .before .before .before .before .before .before .args in
     put-as _ _ _ _ _
-    (status-from (a .protocol) _ _ (a .context) (replicate {A = ℕ} 246 0) _ (a .count) (c .before .before .before .before .before .before .before .copy-to .ensures) (length-replicate {A = ℕ} 246 0) (cause-length (128 + a .cause % 128) (a .octets .now) (a .count) (c .before .before .before .before .before .before .before .before .before .before .before .before .pre .1)) (c .before .before .before .before .before .before .before .before .before .before .before .before .pre .0) _ (c .before .before .before .before .before .status-telling .ensures))
+    (status-from (a .protocol) _ _ (a .sender) (replicate {A = ℕ} 246 0) _ (a .count) (c .before .before .before .before .before .before .before .copy-to .ensures) (length-replicate {A = ℕ} 246 0) (cause-length (128 + a .cause % 128) (a .octets .now) (a .count) (c .before .before .before .before .before .before .before .before .before .before .before .before .pre .1)) (c .before .before .before .before .before .before .before .before .before .before .before .before .pre .0) _ (c .before .before .before .before .before .status-telling .ensures))
     (c .before .before .put-message .ensures)))

@@ -1,5 +1,9 @@
 -- `requested` meets its contract: each part is the definition's.
 use borrow.Author.Needs.{needs}
+use mathlib.Core.Path.{_∙_}
+use native.Mathlib.Omega.{arith}
+use Rattle.codes.specs.declared.state.State.the-variants.{U5}
+use Rattle.context.proofs.States.{sets-all}
 use Rattle.talk.proofs.requested.Statement.{statement}
 use Rattle.talk.proofs.requested.Tie as tie
 
@@ -17,4 +21,4 @@ requested-spec =
     let set = remembers .before in
     let stopped = set .before in
     let entered = stopped .before in
-    rw (c .pending .ensures, remembers .remembering .ensures, set .with-timer2 .ensures, stopped .with-timer .ensures, entered .entering .ensures)))
+    rw (c .pending .ensures, remembers .remembering .ensures, set .with-timer2 .ensures, stopped .with-timer .ensures, entered .start-row .ensures ∙ sets-all U5 (entered .before .before .before .before .args .context .parameters) (omega arith))))
