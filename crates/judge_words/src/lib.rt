@@ -5,9 +5,9 @@ mod refusal;
 
 use log_words::entry::tell_long;
 use log_words::tell_version;
+use message::Own;
 use refusal::tell_refusal;
 use replay::own_of;
-use reply::Own;
 use saying::tell;
 use saying::tell_count;
 use saying::tell_place;
