@@ -1,18 +1,15 @@
-// The words that work on files: settings, show, judge, ignored, record, pcap, timeline. Each answers its verdict: 0 fine, 1 refused, 2 could not run.
-ghost use mathlib.Core.Path.{_≡_};
-ghost use lib.ListN.{length};
-use capture_words::write_capture;
+// The words that work on files: settings, show, judge, ignored, record. Each answers its verdict: 0 fine, 1 refused, 2 could not run.
+use filing::arguments::has_arguments;
+use filing::log_room;
 use filing::read_file;
 use ignored_words::tell_ignored;
 use judge_words::tell_judged;
 use log_words::tell_log;
-use saying::complain;
 use settings::read_settings;
 use settings_values::Settings;
 use settings_words::tell_settings;
 use text::words::part;
 use text::words::same;
-use timeline::tell_timeline;
 
 // Whether the word is one of these, and its verdict.
 pub struct Ran {
@@ -37,12 +34,6 @@ pub fn run(word: &[u8]) -> Ran {
     if same(word, b"record") {
         return with_verdict(run_record());
     }
-    if same(word, b"pcap") {
-        return with_verdict(run_pcap());
-    }
-    if same(word, b"timeline") {
-        return with_verdict(run_timeline());
-    }
     Ran {
         known: false,
         verdict: 2,
@@ -54,21 +45,6 @@ fn with_verdict(verdict: u8) -> Ran {
         known: true,
         verdict,
     }
-}
-
-// Whether the word has so many arguments; a complaint, which says what it takes, where it has not.
-fn has_arguments(count: usize, word: &[u8], takes: &[u8]) -> bool {
-    if os::arg_count() == std::num::wrapping_add_usize(count, 2) {
-        return true;
-    }
-    complain(b"heidezirkel ");
-    complain(word);
-    complain(b": takes ");
-    complain(takes);
-    complain(b"; heidezirkel ");
-    complain(word);
-    complain(b" --help says more\n");
-    false
 }
 
 fn run_settings() -> u8 {
@@ -84,13 +60,6 @@ fn run_settings() -> u8 {
     }
     let count = filed.count;
     tell_settings(part(&name, 0, length), part(&file, 0, count), filed.whole)
-}
-
-// A byte more than a log may have, so that a longer one is told.
-fn log_room() -> [u8; 65537]
-    ensures { λ r. ⌜ 65537 ≡ length r ⌝ }
-{
-    [0; 65537]
 }
 
 fn run_show() -> u8 {
@@ -190,54 +159,4 @@ fn record_log(settings: Settings) -> u8 {
     let mut log = io::buffer();
     let count = os::arg(4, &mut log);
     record_words::run(settings, part(&script, 0, length), part(&log, 0, count))
-}
-
-fn run_pcap() -> u8 {
-    if !has_arguments(
-        2,
-        b"pcap",
-        b"two arguments, a log and the name of the capture file to make",
-    ) {
-        return 2;
-    }
-    let mut name = io::buffer();
-    let length = os::arg(2, &mut name);
-    let mut log = log_room();
-    let filed = read_file(b"pcap", part(&name, 0, length), &mut log);
-    if !filed.good {
-        return 2;
-    }
-    let count = filed.count;
-    let mut path = io::buffer();
-    let end = os::arg(3, &mut path);
-    write_capture(
-        part(&name, 0, length),
-        part(&log, 0, count),
-        part(&path, 0, end),
-    )
-}
-
-fn run_timeline() -> u8 {
-    if !has_arguments(
-        2,
-        b"timeline",
-        b"two arguments, a log and the name of the picture to make",
-    ) {
-        return 2;
-    }
-    let mut name = io::buffer();
-    let length = os::arg(2, &mut name);
-    let mut log = log_room();
-    let filed = read_file(b"timeline", part(&name, 0, length), &mut log);
-    if !filed.good {
-        return 2;
-    }
-    let count = filed.count;
-    let mut path = io::buffer();
-    let end = os::arg(3, &mut path);
-    tell_timeline(
-        part(&log, 0, count),
-        part(&name, 0, length),
-        part(&path, 0, end),
-    )
 }

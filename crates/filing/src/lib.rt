@@ -1,6 +1,11 @@
-// Whole files, read into a lent buffer, and new files. What stands in the way is told on standard error, with the program's word and the file's path.
+// Whole files, read into a lent buffer, and new files; how many arguments a word has. What stands in the way is told on standard error, with the program's word and
+// the file's path.
+ghost use mathlib.Core.Path.{_≡_};
 ghost use Prim.Native.Nat.{_≤_};
 ghost use lib.ListN.{length};
+
+pub mod arguments;
+
 use saying::complain;
 
 // Whether the file could be read, how many bytes of it the buffer holds now, and whether that is the whole file. Where it could
@@ -156,4 +161,11 @@ pub fn close_file(word: &[u8], path: &[u8], descriptor: i32, whole: bool) -> boo
     );
     os::unlink(path);
     false
+}
+
+// A byte more than a log may have, so that a longer one is told.
+pub fn log_room() -> [u8; 65537]
+    ensures { λ r. ⌜ 65537 ≡ length r ⌝ }
+{
+    [0; 65537]
 }

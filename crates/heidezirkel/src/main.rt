@@ -1,4 +1,5 @@
-// heidezirkel: the program that people run over the proved libraries. Its first argument is a word.
+// heidezirkel: the program that people run over the proved libraries. Its first argument is a word; bin/heidezirkel has the words `pcap`, `timeline` and `probe` done by
+// programs of their own (pictures, probe), so that none waits until what another needs is proved.
 // A program has no exit status, so the last line on standard output is its verdict: `verdict 0` fine, `verdict 1` refused,
 // `verdict 2` could not run. bin/heidezirkel turns it into the exit status. What concerns misuse goes to standard error.
 mod arguments;
@@ -10,7 +11,7 @@ use help_words::complain_unknown;
 use help_words::tell_help;
 use help_words::tell_word_help;
 use message_words::tell_apart;
-use probe_words::run_probe;
+use probe::run_probe;
 use saying::complain;
 use saying::tell_verdict;
 use text::hex::read_hex;
@@ -57,9 +58,6 @@ fn run(word: &[u8]) -> u8 {
     }
     if same(word, b"message") {
         return run_message();
-    }
-    if same(word, b"probe") {
-        return run_probe();
     }
     let ran = file_words::run(word);
     if ran.known {
