@@ -7,6 +7,7 @@ ghost use lib.ListN.{length};
 pub mod arguments;
 
 use saying::complain;
+use text::words::part;
 
 // Whether the file could be read, how many bytes of it the buffer holds now, and whether that is the whole file. Where it could
 // not be read, there are none.
@@ -35,6 +36,13 @@ pub fn read_file(word: &[u8], path: &[u8], buffer: &mut [u8]) -> Filed
     }
     libc::close(descriptor);
     filed
+}
+
+// Reads the file that an argument of the word names.
+pub fn read_argument(word: &[u8], place: usize, buffer: &mut [u8]) -> Filed {
+    let mut name = io::buffer();
+    let count = os::arg(place, &mut name);
+    read_file(word, part(&name, 0, count), buffer)
 }
 
 // Reads until the file ends or the buffer is full.
