@@ -3,8 +3,8 @@ use Prim.Native.Nat.{_-_, _≤_}
 use mathlib.Core.Path.{_≡_}
 use borrow.Author.Needs.{needs}
 use lib.ListN.{length}
-use Rattle.probe_words.proofs.input.answer_lines.Statement.{statement}
-use Rattle.probe_words.proofs.input.answer_lines.Tie as tie
+use Rattle.probe.proofs.input.answer_lines.Statement.{statement}
+use Rattle.probe.proofs.input.answer_lines.Tie as tie
 
 abbrev Inv-loop : tie.InvT-loop
 Inv-loop text from octets₀ buffer₀ place₀ at₀ octets buffer place at = (at ≤ length text) × ((length octets ≡ length octets₀) × (length buffer ≡ length buffer₀))

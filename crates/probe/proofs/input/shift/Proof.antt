@@ -3,8 +3,8 @@ use Prim.Native.Nat.{_-_, _≤_}
 use mathlib.Core.Path.{_≡_}
 use borrow.Author.Needs.{needs}
 use lib.ListN.{length}
-use Rattle.probe_words.proofs.input.shift.Statement.{statement}
-use Rattle.probe_words.proofs.input.shift.Tie as tie
+use Rattle.probe.proofs.input.shift.Statement.{statement}
+use Rattle.probe.proofs.input.shift.Tie as tie
 
 abbrev Inv-loop : tie.InvT-loop
 Inv-loop buffer₀ from to count step₀ buffer step = (step ≤ count) × (length buffer ≡ length buffer₀)

@@ -3,8 +3,8 @@ use Prim.Native.Nat.{_≤_}
 use mathlib.Core.Path.{_≡_}
 use borrow.Author.Needs.{needs}
 use lib.ListN.{length}
-use Rattle.probe_words.proofs.input.stream.Statement.{statement}
-use Rattle.probe_words.proofs.input.stream.Tie as tie
+use Rattle.probe.proofs.input.stream.Statement.{statement}
+use Rattle.probe.proofs.input.stream.Tie as tie
 
 abbrev Inv-loop : tie.InvT-loop
 Inv-loop lines₀ octets₀ buffer₀ progress₀ turns₀ lines octets buffer progress turns = (progress .have ≤ length lines) × ((length lines ≡ length lines₀) × ((length octets ≡ length octets₀) × (length buffer ≡ length buffer₀)))

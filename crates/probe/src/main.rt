@@ -1,4 +1,5 @@
-// The word `probe`: commands on standard input, a line each, answered by a line each.
+// probe: the program behind the word `probe`, by which other programs ask: commands on standard input, a line each, answered by a line each.
+// Its last line on standard output is its verdict, as the other programs' is.
 mod answer;
 mod input;
 
@@ -7,9 +8,10 @@ use input::octets_room;
 use input::stream;
 use saying::complain;
 use saying::flush;
+use saying::tell_verdict;
 
 // Answers the verdict.
-pub fn run_probe() -> u8 {
+fn run_probe() -> u8 {
     if os::arg_count() != 2 {
         complain(b"heidezirkel probe: takes no arguments; commands come on standard input\n");
         return 2;
@@ -25,4 +27,8 @@ pub fn run_probe() -> u8 {
     }
     complain(b"heidezirkel probe: standard input can't be read\n");
     2
+}
+
+fn main() {
+    tell_verdict(run_probe());
 }

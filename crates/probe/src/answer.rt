@@ -5,7 +5,7 @@ use judge_command::answer_judge;
 use message_command::read_command::answer_read;
 use message_command::write_command::answer_write;
 use record_command::answer_record;
-use settings_words::settings_command::answer_settings;
+use settings_command::answer_settings;
 use step_command::answer_step;
 use text::output::Output;
 use text::words::Words;
