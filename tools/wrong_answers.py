@@ -263,7 +263,7 @@ def failed_in_file(root, answer, said):
         proof = Proof(crate / file, needs_of(root / "target" / "rlib" / (answer.crate + ".rlib"), folder))
         facts = []
         for line, column, words in said.errors_of(file):
-            if re.search(r"has no `|is not a field|is not in scope|not found|unknown name|no declaration", words):
+            if re.search(r"has no (field )?`|is not a field|is not in scope|not found|unknown name|no declaration", words):
                 return facts, "a name, not a fact: %s:%d: %s" % (file, line, words[:160])
             if not proof.answers:
                 facts.append("walk")
