@@ -40,6 +40,49 @@ find_emulator() {
     for word in $(env | sed -n 's/^\(QEMU_[A-Za-z0-9_]*\)=.*/\1/p'); do unset "$word"; done
 }
 
+# strand_of CRATE NUMBER: the crates of a program's first or second strand, from a line '# strands: CRATE: FIRST.. | SECOND..' of crates.txt; nothing where there is none.
+strand_of() {
+    sed -n "s/^# strands: $1: //p" "$here/crates.txt" | cut -d'|' -f"$2"
+}
+
+# shared_by CRATES : CRATES: what both stand on.
+shared_by() {
+    { each_of "$1"; each_of "$2"; } | sort | uniq -d
+}
+
+# each_of CRATES: all that they stand on, and themselves, each once.
+each_of() {
+    for strand in $1; do crates_of "$strand"; done | sort -u
+}
+
+# prove_in_strands CRATE: proves a program and what it stands on. rt goes level by level and waits for the slowest crate of each, and the long chain of the step and the judge would leave
+# a processor idle; so what the program's two strands share is proved first, then both strands at once, and the program last. rt looks at what is proved before it
+# proves, and keeps a word for each crate meanwhile, in which two of them must not meet: hence the pause. The last call gives the verdict on all of it.
+prove_in_strands() {
+    one='' two='' first=$(strand_of "$1" 1) second=$(strand_of "$1" 2)
+    trap 'kill $one $two 2>/dev/null; exit 2' HUP INT TERM
+    if [ -n "$second" ]; then
+        # shellcheck disable=SC2046
+        set -- "$1" $(shared_by "$first" "$second")
+        [ $# -eq 1 ] || prove_one "$@"
+        # shellcheck disable=SC2086
+        rt check $first & one=$!
+        sleep 5
+        # shellcheck disable=SC2086
+        rt check $second & two=$!
+        wait "$two"
+        wait "$one"
+    fi
+    prove_one "$1" "$1"
+}
+
+# prove_one PROGRAM CRATE..: proves these; killed with what waits for it.
+prove_one() {
+    shift
+    rt check "$@" & one=$!
+    wait "$one"
+}
+
 # prove_program CRATE: proves and builds a program and what it stands on. What the prover says goes to a file, whose name is left in `log`; standard error has one
 # line that moves on where it is a terminal, and else a line for each step.
 prove_program() {
@@ -50,7 +93,7 @@ prove_program() {
     for crate in $wanted; do rm -f "$here/target/log/$crate.res"; done
     began=$(date +%s)
     # rt waits for all that it started at once: more than one for each processor leaves none idle meanwhile.
-    (cd "$here" && RT_JOBS=${RT_JOBS:-$((3 * $(nproc 2>/dev/null || echo 1)))} exec rt check "$1") >"$log" 2>&1 &
+    (cd "$here" && export RT_JOBS="${RT_JOBS:-$((3 * $(nproc 2>/dev/null || echo 1)))}" && prove_in_strands "$1") >"$log" 2>&1 &
     prover=$!
     trap 'kill "$prover" 2>/dev/null; exit 2' HUP INT TERM
     while kill -0 "$prover" 2>/dev/null; do

@@ -1,7 +1,13 @@
-// Whole files, read into a lent buffer, and new files. What stands in the way is told on standard error, with the program's word and the file's path.
+// Whole files, read into a lent buffer, and new files; how many arguments a word has. What stands in the way is told on standard error, with the program's word and
+// the file's path.
+ghost use mathlib.Core.Path.{_≡_};
 ghost use Prim.Native.Nat.{_≤_};
 ghost use lib.ListN.{length};
+
+pub mod arguments;
+
 use saying::complain;
+use text::words::part;
 
 // Whether the file could be read, how many bytes of it the buffer holds now, and whether that is the whole file. Where it could
 // not be read, there are none.
@@ -30,6 +36,13 @@ pub fn read_file(word: &[u8], path: &[u8], buffer: &mut [u8]) -> Filed
     }
     libc::close(descriptor);
     filed
+}
+
+// Reads the file that an argument of the word names.
+pub fn read_argument(word: &[u8], place: usize, buffer: &mut [u8]) -> Filed {
+    let mut name = io::buffer();
+    let count = os::arg(place, &mut name);
+    read_file(word, part(&name, 0, count), buffer)
 }
 
 // Reads until the file ends or the buffer is full.
@@ -156,4 +169,11 @@ pub fn close_file(word: &[u8], path: &[u8], descriptor: i32, whole: bool) -> boo
     );
     os::unlink(path);
     false
+}
+
+// A byte more than a log may have, so that a longer one is told.
+pub fn log_room() -> [u8; 65537]
+    ensures { λ r. ⌜ 65537 ≡ length r ⌝ }
+{
+    [0; 65537]
 }

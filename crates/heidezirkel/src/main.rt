@@ -1,4 +1,5 @@
-// heidezirkel: the program that people run over the proved libraries. Its first argument is a word.
+// heidezirkel: the program that people run over the proved libraries. Its first argument is a word; bin/heidezirkel has the words `record`, `pcap`, `timeline` and `probe` done
+// by programs of their own (recordings, pictures, probe), so that none waits until what only another needs is proved.
 // A program has no exit status, so the last line on standard output is its verdict: `verdict 0` fine, `verdict 1` refused,
 // `verdict 2` could not run. bin/heidezirkel turns it into the exit status. What concerns misuse goes to standard error.
 mod arguments;
@@ -9,10 +10,13 @@ use help_words::complain_help;
 use help_words::complain_unknown;
 use help_words::tell_help;
 use help_words::tell_word_help;
+use ignored_words::run_ignored;
+use judge_words::run_judge;
+use log_words::show::run_show;
 use message_words::tell_apart;
-use probe_words::run_probe;
 use saying::complain;
 use saying::tell_verdict;
+use settings_words::argument::run_settings;
 use text::hex::read_hex;
 use text::words::part;
 use text::words::same;
@@ -58,12 +62,17 @@ fn run(word: &[u8]) -> u8 {
     if same(word, b"message") {
         return run_message();
     }
-    if same(word, b"probe") {
-        return run_probe();
+    if same(word, b"judge") {
+        return run_judge();
     }
-    let ran = file_words::run(word);
-    if ran.known {
-        return ran.verdict;
+    if same(word, b"ignored") {
+        return run_ignored();
+    }
+    if same(word, b"show") {
+        return run_show();
+    }
+    if same(word, b"settings") {
+        return run_settings();
     }
     refuse_word(word)
 }

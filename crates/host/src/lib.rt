@@ -5,9 +5,9 @@ ghost use lib.Seq.{sets};
 ghost use Rattle.version.specs.Version.{newest};
 ghost use Rattle.radio.specs.Step.{stepOf, shown};
 use context::Context;
+use message::Own;
 use radio::Happened;
 use radio::Outcome;
-use reply::Own;
 
 // The step over the host's context, in place, by the newest table.
 pub fn step(

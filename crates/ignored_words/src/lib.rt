@@ -3,21 +3,35 @@ mod listing;
 mod reason;
 
 ghost use Prim.Native.Nat.{_<_};
+use filing::log_room;
 use judge_walk::End;
 use judge_walk::walk;
 pub use listing::list;
 use log_words::tell_version;
+use message::Own;
 use reason::tell_reason;
 use replay::own_of;
-use reply::Own;
 use saying::tell;
 use saying::tell_count;
 use saying::tell_place;
 use settings_values::Settings;
+use settings_words::argument::settings_and_log;
 use text::words::part;
 
+// The word `ignored`.
+pub fn run_ignored() -> u8 {
+    let mut log = log_room();
+    let ready = settings_and_log(b"ignored", &mut log);
+    if ready.verdict != 0 {
+        return ready.verdict;
+    }
+    let settings = ready.settings;
+    let count = ready.count;
+    tell_ignored(settings, part(&log, 0, count))
+}
+
 // Lists the ignored messages of a log, and answers the verdict: 0 where the whole log is what the radio does.
-pub fn tell_ignored(settings: Settings, log: &[u8]) -> u8 {
+fn tell_ignored(settings: Settings, log: &[u8]) -> u8 {
     if version::LONGEST < log.len() {
         tell(
             b"the log is refused: it has over 65,536 bytes (answer 10), and nothing of it is listed; see heidezirkel judge\n",

@@ -6,7 +6,7 @@ use native.Mathlib.Omega.{arith}
 use Rattle.octets.specs.Run.{part}
 use Rattle.octets.proofs.Choice.{at-cond}
 use Rattle.octets.specs.declared.Run.{Run}
-use Rattle.reply.specs.declared.Own.{Own}
+use Rattle.message.specs.declared.Own.{Own}
 use Rattle.timer.specs.declared.Window.{Window}
 use Rattle.timer.specs.Timers.{invitationGreatest}
 use Rattle.version.specs.declared.Table.{Table}

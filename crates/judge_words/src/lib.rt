@@ -1,24 +1,37 @@
 // A log's verdict in words: accepted, with what that says of the radio; or the entry at which it is refused, what that entry claims, and what the step
 // gives or which time rule it breaks.
-pub mod claim;
 mod refusal;
 
+use filing::log_room;
 use log_words::entry::tell_long;
 use log_words::tell_version;
+use message::Own;
 use refusal::tell_refusal;
 use replay::own_of;
-use reply::Own;
 use saying::tell;
 use saying::tell_count;
 use saying::tell_place;
 use settings_values::Settings;
+use settings_words::argument::settings_and_log;
 use text::words::part;
 use timer::Window;
 use verdict::Invitation;
 use verdict::Judged;
 
+// The word `judge`.
+pub fn run_judge() -> u8 {
+    let mut log = log_room();
+    let ready = settings_and_log(b"judge", &mut log);
+    if ready.verdict != 0 {
+        return ready.verdict;
+    }
+    let settings = ready.settings;
+    let count = ready.count;
+    tell_judged(settings, part(&log, 0, count))
+}
+
 // Judges a log by the settings of a radio, and answers the verdict.
-pub fn tell_judged(settings: Settings, log: &[u8]) -> u8 {
+fn tell_judged(settings: Settings, log: &[u8]) -> u8 {
     let identity = settings.identity;
     let count = settings.count;
     let own = own_of(settings);

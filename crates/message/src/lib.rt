@@ -15,6 +15,12 @@ pub struct Classmark {
     pub third: u8,
 }
 
+// What the mobile station says of itself beside its identity: ciphering key number and classmark.
+pub struct Own {
+    pub key: u8,
+    pub classmark: Classmark,
+}
+
 // An optional mobile identity.
 pub enum Identity {
     Absent,

@@ -15,7 +15,7 @@ use Rattle.fitness.specs.Tables.{fitOf}
 use Rattle.fitness.proofs.Tables.{fit-u0, fit-value}
 use Rattle.call.specs.declared.Settled.{Settled}
 use Rattle.call.proofs.Answers.{Right, settled-right}
-use Rattle.reply.specs.declared.Own.{Own}
+use Rattle.message.specs.declared.Own.{Own}
 use Rattle.codes.specs.declared.protocol.Protocol.{Protocol}
 use Rattle.call.specs.declared.Sent.{Sent}
 use Rattle.reply.proofs.Fits.{reply-short, nothing-sent}

@@ -8,7 +8,7 @@ use Rattle.octets.proofs.Coincide.{coincide}
 use Rattle.version.specs.declared.Table.{Table}
 use Rattle.version.specs.Version.{newest}
 use Rattle.context.specs.declared.Context.{Context}
-use Rattle.reply.specs.declared.Own.{Own}
+use Rattle.message.specs.declared.Own.{Own}
 use Rattle.radio.specs.declared.Happened.{Happened}
 use Rattle.radio.specs.declared.Stepped.{Stepped}
 use Rattle.radio.specs.Step.{Reaction, stepOf, takenOf, shown}

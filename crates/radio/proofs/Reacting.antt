@@ -30,7 +30,7 @@ use Rattle.transitions.proofs.Sound.{rows-sound}
 use Rattle.transitions.proofs.Decided.{Plain, event-plain}
 use Rattle.call.specs.Events.{bare, carrying, seenOf}
 use Rattle.call.proofs.Kept.{DueFit, received-value, settled-fit}
-use Rattle.reply.specs.declared.Own.{Own}
+use Rattle.message.specs.declared.Own.{Own}
 use Rattle.codes.specs.declared.protocol.Protocol.{Protocol}
 use Rattle.reply.specs.Reply.{replyOf, putAll}
 use Rattle.reply.proofs.Fits.{Orderly, put-is-reply}

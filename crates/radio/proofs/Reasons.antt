@@ -20,7 +20,7 @@ use Rattle.call.specs.Due.{settledBy, settled}
 use Rattle.call.specs.Events.{seenOf}
 use Rattle.call.specs.Step.{noStep, carriedOut, stepBy}
 use Rattle.call.specs.Reasons.{reasonNumber}
-use Rattle.reply.specs.declared.Own.{Own}
+use Rattle.message.specs.declared.Own.{Own}
 use Rattle.received.specs.Ignored.{holdsOf, inOrder, firstIn}
 use Rattle.received.proofs.Ignored.{None, given, only, reason-first}
 use Rattle.radio.specs.declared.Happened.{Happened}

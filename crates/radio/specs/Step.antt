@@ -40,7 +40,7 @@ use Rattle.call.specs.declared.Event.the-variants.{
 }
 use Rattle.call.specs.declared.Settled.{Settled}
 use Rattle.call.specs.Due.{settled}
-use Rattle.reply.specs.declared.Own.{Own}
+use Rattle.message.specs.declared.Own.{Own}
 use Rattle.reply.specs.Reply.{replyOf, putAll}
 use Rattle.step_arguments.specs.Arguments.{argumentRefusal}
 use Rattle.radio.specs.declared.Happened.{Happened}

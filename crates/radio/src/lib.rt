@@ -8,8 +8,8 @@ ghost use Rattle.radio.specs.Step.{eventOf, dueTo, reactedTo, fitnessRef
 use call::Due;
 use call::Event;
 use context::Context;
+use message::Own;
 use octets::Reference;
-use reply::Own;
 use version::Table;
 
 // An event: its number, and the data that an event may carry. What it does not carry has no effect.

@@ -9,7 +9,7 @@ use Rattle.codes.specs.declared.protocol.Protocol.{Protocol}
 use Rattle.context.specs.declared.Context.{Context}
 use Rattle.call.specs.declared.Sent.{Sent}
 use Rattle.call.specs.declared.Sending.{Sending}
-use Rattle.reply.specs.declared.Own.{Own}
+use Rattle.message.specs.declared.Own.{Own}
 use Rattle.reply.specs.Reply.{putAll}
 
 module _ (protocol : Protocol) (d identity s : List ℕ) (own : Own) (x : Context) (sends : Sending) (k : Sent) where

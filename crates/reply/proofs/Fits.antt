@@ -25,7 +25,7 @@ use Rattle.transitions.specs.declared.Send.the-variants.{Nothing, ImmediateSetu
 use Rattle.call.specs.declared.Sending.{Sending}
 use Rattle.call.specs.declared.Sending.the-variants.{OfRow, Status, ErrorStatus}
 use Rattle.call.specs.Step.{silent}
-use Rattle.reply.specs.declared.Own.{Own}
+use Rattle.message.specs.declared.Own.{Own}
 use Rattle.reply.specs.Reply.{flagSent, sent, statusOf, causeOctet, copied, hearing, rowOf, ownOf, statusDue, requestDue, replyOf, putContent, putRow, putOf, behind, putDue, putAll}
 use Rattle.reply.proofs.Copied.{telling-length, status-length, copied-is}
 

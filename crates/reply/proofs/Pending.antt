@@ -26,7 +26,7 @@ use Rattle.context.specs.declared.Context.{Context}
 use Rattle.call.specs.declared.Sent.{Sent}
 use Rattle.call.specs.Talk.{withValue}
 use Rattle.call.specs.declared.Sending.{Sending}
-use Rattle.reply.specs.declared.Own.{Own}
+use Rattle.message.specs.declared.Own.{Own}
 use Rattle.reply.specs.declared.Sender.{Sender}
 use Rattle.reply.specs.Reply.{sent, causeOctet, hearing, behind, putDue, putOf, putAll}
 use Rattle.reply.specs.Put.{countOf, senderOf, statusTelling, messageFrom, placed, pendingOf}

@@ -28,7 +28,7 @@ use Rattle.writing.specs.Writing.{writable, octetsWritten, writeAnswer, writeLe
 use Rattle.codes.specs.declared.protocol.Protocol.{Protocol}
 use Rattle.context.specs.declared.Context.{Context}
 use Rattle.context.specs.Talk.{flagOf}
-use Rattle.reply.specs.declared.Own.{Own}
+use Rattle.message.specs.declared.Own.{Own}
 use Rattle.reply.specs.declared.Sender.{Sender}
 use Rattle.reply.specs.Reply.{sent, statusOf, causeOctet, copied, copyCount, hearing, putContent, putOf}
 use Rattle.reply.specs.Put.{countOf, senderOf, statusBy, statusTelling, messageFrom, putBy, putFrom}

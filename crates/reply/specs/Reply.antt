@@ -18,7 +18,7 @@ use Rattle.transitions.specs.declared.Send.{Send}
 use Rattle.transitions.specs.declared.Send.the-variants.{Nothing, ImmediateSetup, Setup, TerminationRequest}
 use Rattle.call.specs.declared.Sending.{Sending}
 use Rattle.call.specs.declared.Sending.the-variants.{OfRow, Status, ErrorStatus}
-use Rattle.reply.specs.declared.Own.{Own}
+use Rattle.message.specs.declared.Own.{Own}
 
 -- Rule 1: the transaction carries our value; we send the opposite flag of the one we expect.
 abbrev pub flagSent : Context → Bool

@@ -18,19 +18,13 @@ use codes::state::State;
 use codes::state::call_state_code;
 use context::Context;
 use context::Talk;
-use message::Classmark;
 use message::Half;
 use message::Message;
+use message::Own;
 use octets::Run;
 use octets::copy_to;
 use transitions::Send;
 use writing::Wrote;
-
-// What the mobile station says of itself beside its identity: ciphering key number and classmark.
-pub struct Own {
-    pub key: u8,
-    pub classmark: Classmark,
-}
 
 // How many octets writing wrote.
 fn written_count(wrote: Wrote) -> usize

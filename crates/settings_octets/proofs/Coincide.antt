@@ -4,7 +4,7 @@ use mathlib.Core.Path.{_≡_}
 use mathlib.Core.List.{List}
 use Rattle.octets.proofs.Coincide.{coincide}
 use Rattle.octets.specs.declared.Run.{Run}
-use Rattle.reply.specs.declared.Own.{Own}
+use Rattle.message.specs.declared.Own.{Own}
 use Rattle.settings_values.specs.declared.Settings.{Settings}
 use Rattle.settings_octets.specs.Octets.{identityRun, octetsOf, ownOf}
 

@@ -8,7 +8,7 @@ use lib.ListN.{getD}
 use Rattle.octets.specs.Run.{part}
 use Rattle.octets.specs.Little.{little}
 use Rattle.octets.specs.declared.Run.{Run}
-use Rattle.reply.specs.declared.Own.{Own}
+use Rattle.message.specs.declared.Own.{Own}
 use Rattle.settings_values.specs.declared.Settings.{Settings}
 
 -- What a step is told of the station beside its identity.

@@ -5,8 +5,8 @@ ghost use Rattle.octets.specs.Little.{little};
 ghost use Prim.Native.Nat.{_+_, _≤_};
 ghost use Rattle.settings_octets.specs.Octets.{identityRun, lengthOctet, octetsOf, ownOf, runOf};
 use message::Classmark;
+use message::Own;
 use octets::Run;
-use reply::Own;
 use settings_values::Settings;
 
 // What the octets say beside the identity.

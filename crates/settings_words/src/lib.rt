@@ -1,7 +1,7 @@
-// The settings file in words: what was read, or the line that is refused and what it wants. And the probe's command for it.
+// The settings file in words: what was read, or the line that is refused and what it wants.
+pub mod argument;
 mod fault;
 pub mod line;
-pub mod settings_command;
 
 use fault::tell_fault;
 use fault::tell_too_long;

@@ -7,7 +7,7 @@ use lib.ListN.{length}
 use lib.Seq.{sets}
 use Rattle.octets.specs.Run.{part}
 use Rattle.octets.specs.declared.Run.{Run}
-use Rattle.reply.specs.declared.Own.{Own}
+use Rattle.message.specs.declared.Own.{Own}
 use Rattle.context.specs.declared.Context.{Context}
 use Rattle.version.specs.declared.Table.{Table}
 use Rattle.radio.specs.declared.Happened.{Happened}

@@ -10,12 +10,12 @@ ghost use Rattle.context_octets.specs.Octets.{octetsOf};
 ghost use Rattle.step_numbers.specs.Stepping.{Comes, callFrom, callOf, happenedOf, stepShown};
 use context::Context;
 use context_octets::Reading;
+use message::Own;
 use octets::Reference;
 use octets::Run;
 use radio::Happened;
 use radio::Outcome;
 use radio::Stepped;
-use reply::Own;
 use version::Table;
 
 // An event and its data, in C's numbers; what it does not carry has no effect.

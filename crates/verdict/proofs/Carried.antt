@@ -22,7 +22,7 @@ use Rattle.call.specs.Events.{seenOf}
 use Rattle.call.specs.Step.{noStep, carriedOut, stepBy}
 use Rattle.codes.specs.declared.protocol.Protocol.{Protocol}
 use Rattle.version.specs.Version.{greatestActions, protocolOf}
-use Rattle.reply.specs.declared.Own.{Own}
+use Rattle.message.specs.declared.Own.{Own}
 use Rattle.reply.proofs.Fits.{OfARow, row-reply}
 use Rattle.step_arguments.specs.Arguments.{outOfRange, argumentRefusal}
 use Rattle.radio.specs.declared.Told.{Told}

@@ -13,7 +13,7 @@ use Rattle.call.specs.Due.{settledBy}
 use Rattle.call.specs.Events.{seenOf}
 use Rattle.call.specs.Talk.{adopted, originating, noted, awaitingAfter, sentIn, flushed}
 use Rattle.call.specs.Step.{parametersAfter, valueAfter, referenceAfter, afterwards, ignored, noStep, carriedOut, stepBy}
-use Rattle.reply.specs.declared.Own.{Own}
+use Rattle.message.specs.declared.Own.{Own}
 use Rattle.reply.specs.Reply.{rowOf, ownOf, statusDue, requestDue, replyOf}
 use Rattle.received.specs.Received.{sameOctets}
 use Rattle.received.specs.Due.{dueOf}

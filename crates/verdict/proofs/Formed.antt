@@ -11,7 +11,7 @@ use lib.ListN.{length, take, drop, take-append-drop, drop-of-length-le}
 use lib.Seq.{drop-drop}
 use borrow.Author.Tests.{leb-true}
 use Rattle.version.specs.declared.Table.{Table}
-use Rattle.reply.specs.declared.Own.{Own}
+use Rattle.message.specs.declared.Own.{Own}
 use Rattle.log_number.specs.Number.{grouped, numberAt}
 use Rattle.log_number.specs.declared.Number.the-variants.{Value}
 use Rattle.log_number.proofs.Meaning.{Octets, Shortest, Exact, number-exact}

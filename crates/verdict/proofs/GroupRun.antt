@@ -37,7 +37,7 @@ use Rattle.log.specs.Reading.{restAt, entryAt}
 use Rattle.table.specs.Judge.{narrow, turn, judgeFrom, judge}
 use Rattle.table.specs.Reading.{entriesIn, entries}
 use Rattle.table.specs.TwoTimers.{judgeTwo}
-use Rattle.reply.specs.declared.Own.{Own}
+use Rattle.message.specs.declared.Own.{Own}
 use Rattle.verdict.specs.Table.{parametersNumber, agree, tellsInvitation}
 use Rattle.verdict.specs.Judge.{invitationTold, versionJudged, judgeOf, answerNumber, answerValues}
 

@@ -20,7 +20,7 @@ use Rattle.context.proofs.Whole.{if-so, inStates, at-state}
 use Rattle.fitness.specs.Fitness.{timersFitBy}
 use Rattle.fitness.specs.Tables.{fitnessOf, timersFit, fitOf}
 use Rattle.fitness.proofs.Tables.{fit-timers, cleared-fit}
-use Rattle.reply.specs.declared.Own.{Own}
+use Rattle.message.specs.declared.Own.{Own}
 use Rattle.version.specs.declared.Table.{Table}
 use Rattle.version.specs.declared.Table.the-variants.{First, Second, Third, Group}
 use Rattle.version.specs.Version.{protocolOf}

@@ -9,7 +9,7 @@ use Rattle.octets.proofs.Choice.{never}
 use Rattle.context.specs.declared.Context.{Context}
 use Rattle.fitness.specs.Tables.{fitOf}
 use Rattle.fitness.proofs.Tables.{cleared-fit}
-use Rattle.reply.specs.declared.Own.{Own}
+use Rattle.message.specs.declared.Own.{Own}
 use Rattle.step_arguments.specs.Arguments.{argumentRefusal}
 use Rattle.radio.specs.Step.{refusalOf, Reaction, stepOf}
 use Rattle.radio.proofs.Answers.{step-honest, step-keeps-fit}

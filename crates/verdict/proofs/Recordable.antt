@@ -17,7 +17,7 @@ use Rattle.context.specs.States.{numberOf, among}
 use Rattle.context.proofs.Whole.{if-so, inStates, at-state}
 use Rattle.fitness.specs.Tables.{fitnessOf}
 use Rattle.fitness.proofs.Tables.{fit-known}
-use Rattle.reply.specs.declared.Own.{Own}
+use Rattle.message.specs.declared.Own.{Own}
 use Rattle.radio.specs.Step.{refusalOf}
 use Rattle.radio.proofs.Range.{InRange, in-range, refused-over, number-known, mode-most, value-most}
 use Rattle.radio.proofs.Reacting.{step-by}

@@ -9,7 +9,7 @@ use lib.Dec.{eqb}
 use lib.ListN.{length, take}
 use lib.Seq.{length-take-le}
 use Rattle.context.specs.declared.Context.{Context}
-use Rattle.reply.specs.declared.Own.{Own}
+use Rattle.message.specs.declared.Own.{Own}
 use Rattle.step_arguments.specs.Arguments.{settingsOut}
 use Rattle.version.specs.declared.Table.{Table}
 use Rattle.version.specs.declared.Table.the-variants.{First, Second, Third, Group}

@@ -15,7 +15,7 @@ use Rattle.transitions.specs.Table.{stepTable}
 use Rattle.transitions.proofs.Sound.{rightly, rows-sound}
 use Rattle.call.specs.Sets.{setByDue}
 use Rattle.call.proofs.Timed.{stays, timed-by}
-use Rattle.reply.specs.declared.Own.{Own}
+use Rattle.message.specs.declared.Own.{Own}
 use Rattle.radio.specs.Step.{dueTo, reactedTo, refusalOf, reacted, refused, stepOf}
 use Rattle.version.specs.declared.Table.{Table}
 use Rattle.version.specs.Version.{greatestActions, protocolOf}

@@ -5,7 +5,7 @@ use mathlib.Core.Bool.{true}
 use mathlib.Core.List.{List, [], _∷_}
 use Rattle.version.specs.declared.Table.{Table}
 use Rattle.version.specs.Version.{versionOf}
-use Rattle.reply.specs.declared.Own.{Own}
+use Rattle.message.specs.declared.Own.{Own}
 use Rattle.log_number.specs.Number.{numberAt}
 use Rattle.log_number.specs.declared.Number.the-variants.{Value}
 use Rattle.log.specs.Layout.{Meant, ranged, whole}

@@ -4,7 +4,7 @@ use mathlib.Core.Path.{_≡_}
 use mathlib.Core.Bool.{cond}
 use mathlib.Core.List.{List, [], _∷_}
 use Rattle.context.specs.declared.Context.{Context}
-use Rattle.reply.specs.declared.Own.{Own}
+use Rattle.message.specs.declared.Own.{Own}
 use Rattle.version.specs.declared.Table.{Table}
 use Rattle.recorder.specs.Recording.{Records}
 use Rattle.recorder.specs.declared.Recorded.the-variants.{Used}

@@ -7,7 +7,7 @@ use lib.ListN.{length}
 use Rattle.version.specs.declared.Table.{Table}
 use Rattle.context.specs.declared.Context.{Context}
 use Rattle.call.specs.Sets.{setByDue}
-use Rattle.reply.specs.declared.Own.{Own}
+use Rattle.message.specs.declared.Own.{Own}
 use Rattle.radio.specs.Step.{dueTo, refusalOf}
 use Rattle.verdict.specs.Table.{GivenEvent}
 

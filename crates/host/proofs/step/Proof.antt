@@ -117,15 +117,15 @@ use denote.Triple.Walked.{
 }
 use denote.Exit.{yes}
 use Rattle.context.specs.declared.Context.{Context}
-use Rattle.reply.specs.declared.Own.{Own}
+use Rattle.message.specs.declared.Own.{Own}
 use Rattle.radio.specs.declared.Happened.{Happened}
 use Rattle.radio.specs.declared.Stepped.{Stepped}
 use Rattle.version.specs.Version.{newest}
 use Rattle.radio.specs.Step.{Reaction, stepOf, shown}
 use Rattle.context.proofs.Context as T
 use Rattle.context.proofs.Context.Laws as T′
-use Rattle.reply.proofs.Own as P
-use Rattle.reply.proofs.Own.Laws as P′
+use Rattle.message.proofs.Own as P
+use Rattle.message.proofs.Own.Laws as P′
 use Rattle.radio.proofs.Happened as G
 use Rattle.radio.proofs.Happened.Laws as G′
 use Rattle.radio.proofs.Stepped as S

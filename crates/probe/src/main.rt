@@ -1,0 +1,34 @@
+// probe: the program behind the word `probe`, by which other programs ask: commands on standard input, a line each, answered by a line each.
+// Its last line on standard output is its verdict, as the other programs' is.
+mod answer;
+mod input;
+
+use input::line_room;
+use input::octets_room;
+use input::stream;
+use saying::complain;
+use saying::flush;
+use saying::tell_verdict;
+
+// Answers the verdict.
+fn run_probe() -> u8 {
+    if os::arg_count() != 2 {
+        complain(b"heidezirkel probe: takes no arguments; commands come on standard input\n");
+        return 2;
+    }
+    let mut lines = line_room();
+    let mut octets = octets_room();
+    let mut buffer = io::large_buffer();
+    let end = stream(&mut lines, &mut octets, &mut buffer);
+    let output = end.output;
+    flush(&buffer, output);
+    if end.stop == 1 {
+        return 0;
+    }
+    complain(b"heidezirkel probe: standard input can't be read\n");
+    2
+}
+
+fn main() {
+    tell_verdict(run_probe());
+}

@@ -1,0 +1,36 @@
+// recordings: the program behind the word `record`, which makes a log from a script of events.
+// Its last line on standard output is its verdict, as the other programs' is.
+use filing::arguments::has_arguments;
+use saying::tell_verdict;
+use settings_values::Settings;
+use settings_words::argument::settings_argument;
+use text::words::part;
+
+fn run_record() -> u8 {
+    if !has_arguments(
+        3,
+        b"record",
+        b"three arguments, a settings file, a script and the name of the log to make",
+    ) {
+        return 2;
+    }
+    let fitted = settings_argument(b"record");
+    if fitted.verdict != 0 {
+        return fitted.verdict;
+    }
+    let settings = fitted.settings;
+    record_log(settings)
+}
+
+// The script and the log that `record` makes of it.
+fn record_log(settings: Settings) -> u8 {
+    let mut script = io::buffer();
+    let length = os::arg(3, &mut script);
+    let mut log = io::buffer();
+    let count = os::arg(4, &mut log);
+    record_words::run(settings, part(&script, 0, length), part(&log, 0, count))
+}
+
+fn main() {
+    tell_verdict(run_record());
+}

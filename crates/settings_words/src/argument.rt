@@ -1,0 +1,92 @@
+// Settings files as the arguments of a word.
+use crate::tell_settings;
+use filing::arguments::has_arguments;
+use filing::read_argument;
+use filing::read_file;
+use settings::read_settings;
+use settings_values::Settings;
+use text::words::part;
+
+// The word `settings`.
+pub fn run_settings() -> u8 {
+    if !has_arguments(1, b"settings", b"one argument, a settings file") {
+        return 2;
+    }
+    let mut name = io::buffer();
+    let length = os::arg(2, &mut name);
+    let mut file = io::large_buffer();
+    let filed = read_file(b"settings", part(&name, 0, length), &mut file);
+    if !filed.good {
+        return 2;
+    }
+    let count = filed.count;
+    tell_settings(part(&name, 0, length), part(&file, 0, count), filed.whole)
+}
+
+// The settings of a radio; or the verdict, 1 or 2, where there are none.
+pub struct Fitted {
+    pub verdict: u8,
+    pub settings: Settings,
+}
+
+// The settings file that is the first argument of a word. One that is refused stops the word at its line.
+pub fn settings_argument(word: &[u8]) -> Fitted {
+    let mut name = io::buffer();
+    let length = os::arg(2, &mut name);
+    let mut file = io::large_buffer();
+    let filed = read_file(word, part(&name, 0, length), &mut file);
+    if !filed.good {
+        return Fitted {
+            verdict: 2,
+            settings: Settings::NONE,
+        };
+    }
+    let count = filed.count;
+    let read = read_settings(part(&file, 0, count));
+    let settings = read.settings;
+    if read.answer != 0 {
+        let verdict = tell_settings(part(&name, 0, length), part(&file, 0, count), filed.whole);
+        return Fitted { verdict, settings };
+    }
+    Fitted {
+        verdict: 0,
+        settings,
+    }
+}
+
+// The same with a log, of which the first `count` bytes of a lent buffer are.
+pub struct Ready {
+    pub verdict: u8,
+    pub settings: Settings,
+    pub count: usize,
+}
+
+// The settings file and the log that are the two arguments of a word.
+pub fn settings_and_log(word: &[u8], log: &mut [u8]) -> Ready {
+    if !has_arguments(2, word, b"two arguments, a settings file and a log") {
+        return stopped(2);
+    }
+    let fitted = settings_argument(word);
+    let settings = fitted.settings;
+    if fitted.verdict != 0 {
+        return stopped(fitted.verdict);
+    }
+    let filed = read_argument(word, 3, log);
+    if !filed.good {
+        return stopped(2);
+    }
+    Ready {
+        verdict: 0,
+        settings,
+        count: filed.count,
+    }
+}
+
+// Why a word does not go on.
+fn stopped(verdict: u8) -> Ready {
+    Ready {
+        verdict,
+        settings: Settings::NONE,
+        count: 0,
+    }
+}
