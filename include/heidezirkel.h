@@ -213,7 +213,7 @@ enum { /* what happens: the numbers of events */
     HEIDEZIRKEL_EVENT_RECEIVED = 18,          /* lower layers: a message came; carries mode and octets */
     HEIDEZIRKEL_EVENT_PRES_EXPIRED = 19,      /* the host's clock, as 14 to 17; not of a group call */
     /* Of a group call alone: */
-    HEIDEZIRKEL_EVENT_STOP_TALKING = 32,      /* the user asks for receive mode */
+    HEIDEZIRKEL_EVENT_RECEIVE_MODE = 32,      /* the user asks for receive mode: stops talking */
     HEIDEZIRKEL_EVENT_TALK = 33,              /* the user asks to talk */
     HEIDEZIRKEL_EVENT_GROUP_TRANSMIT = 34,    /* lower layers: group transmit mode is entered */
     HEIDEZIRKEL_EVENT_DEDICATED = 35,         /* lower layers: dedicated mode is entered */
