@@ -368,7 +368,7 @@ struct heidezirkel_used heidezirkel_record(uint8_t *log, size_t room, size_t use
     size_t reply_length);
 
 /* The same for a step of a group call: events 1 to 18 and 32 to 36, states to 13 and actions to 127 are in range, and with 0 used the version is 16. What it
- * adds to a log of broadcast calls the judge refuses, since the bytes already used are not looked at. */
+ * adds to a log of broadcast calls the judge may refuse, or take for a step of a broadcast call, since the bytes already used are not looked at. */
 struct heidezirkel_used heidezirkel_group_record(uint8_t *log, size_t room, size_t used, uint32_t delta_ms, struct heidezirkel_event event,
     const uint8_t *message, size_t message_length, struct heidezirkel_step step, const uint8_t context[16], const uint8_t *reply,
     size_t reply_length);
