@@ -5,4 +5,5 @@ pub mod Return
 pub mod Invitation
 pub mod Answers
 pub mod Timed
+pub mod Together
 pub mod Coincide
