@@ -6,4 +6,5 @@ pub mod Invitation
 pub mod Answers
 pub mod Timed
 pub mod Together
+pub mod Waits
 pub mod Coincide
