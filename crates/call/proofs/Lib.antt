@@ -7,4 +7,6 @@ pub mod Answers
 pub mod Timed
 pub mod Together
 pub mod Waits
+pub mod Leads
+pub mod Runs
 pub mod Coincide
