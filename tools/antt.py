@@ -7,7 +7,7 @@ import re
 from pathlib import Path
 
 ROOT = Path(__file__).resolve().parent.parent
-PROGRAMS = """saying filing fields message_command step_command record_command judge_command settings_command message_words settings_words log_words replay
+PROGRAMS = """saying filing fields forms message_command step_command record_command judge_command settings_command message_words settings_words log_words replay
 ignored_words judge_words probe script record_words capture_words drawing timeline help_words heidezirkel recordings pictures""".split()
 
 KEYWORDS = {"abbrev", "unfoldable", "pub", "data", "record", "module", "where", "let", "in", "use", "as", "unfolding", "λ", "→", ":", "=", "Type", "_"}

@@ -1,9 +1,10 @@
 // The command `judge` of the probe: settings and a log's bytes, the verdict in numbers.
 use fields::malformed;
 use fields::words::octets_word;
+use forms::take_words;
 use saying::say;
 use saying::say_decimal;
-use step_command::own_word;
+use step_command::settings_of;
 use text::output::Output;
 use text::words::Words;
 use text::words::finished;
@@ -12,7 +13,7 @@ use timer::Window;
 use verdict::Invitation;
 use verdict::Judged;
 
-// `judge CKSN CLASSMARK IDENTITY LOG`.
+// `judge CKSN CLASSMARK IDENTITY LOG`. The words before the log stand in a record where `step` has them.
 pub fn answer_judge(
     line: &[u8],
     words: Words,
@@ -20,20 +21,25 @@ pub fn answer_judge(
     buffer: &mut [u8],
     output: Output,
 ) -> Output {
-    let own = own_word(line, words);
-    let own_words = own.words;
-    let identity = octets_word(line, own_words, octets, 0);
-    let identity_words = identity.words;
-    let named = identity.count;
-    let log = octets_word(line, identity_words, octets, named);
+    let mut record = [0u8; 36];
+    let told = take_words(line, words, b"...........8MI", &mut record, octets);
+    let log = octets_word(line, told, octets, 0);
     let rest = log.words;
     let size = log.count;
     if !finished(line, rest) {
         return malformed(buffer, output);
     }
-    let said = own.own;
-    let judged = judge::judge(said, part(octets, 0, named), part(octets, named, size));
+    let settings = settings_of(&record);
+    let judged = judged_by(&settings, part(octets, 0, size));
     say_judged(buffer, output, judged)
+}
+
+fn judged_by(settings: &[u8; 21], log: &[u8]) -> Judged {
+    let own = settings_octets::own_of(settings);
+    let run = settings_octets::identity_run(settings);
+    let start = run.start;
+    let count = run.count;
+    judge::judge(own, part(settings, start, count), log)
 }
 
 fn say_judged(buffer: &mut [u8], output: Output, judged: Judged) -> Output {

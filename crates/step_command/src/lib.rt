@@ -1,99 +1,27 @@
-// The commands `step` and `gstep` of the probe: a context and an event in numbers, the step's outcome in numbers.
-ghost use Prim.Native.Nat.{_≤_};
-
-mod context_words;
-
+// The commands `step` and `gstep` of the probe: a context, the settings and an event as the octets and numbers that the library for C has of them, and the step's
+// outcome likewise.
 use codes::protocol::Protocol;
-use context::Context;
-use context_words::Lent;
-use context_words::Told;
-use context_words::context_told;
-use context_words::lent_context;
-use context_words::say_context;
-use context_words::say_lent;
 use fields::malformed;
-use fields::words::number_word;
-use fields::words::octets_word;
-use fields::words::reference_word;
-use fields::words::small_word;
-use message::Classmark;
-use message::Own;
-use radio::Happened;
-use radio::Stepped;
-use saying::say;
-use saying::say_hex;
-use saying::say_number;
+use forms::say_words;
+use forms::take_words;
+use forms::up_to;
+use octets::copy_to;
+use step_numbers::Occurrence;
+use step_numbers::Step;
 use text::output::Output;
 use text::words::Words;
 use text::words::finished;
 use text::words::part;
 use version::Table;
 
-pub struct OwnWord {
-    pub own: Own,
-    pub words: Words,
-}
+// Forms stand in rows of so many characters, a broadcast call's before a group call's.
+const ROW: usize = 24;
 
-struct HappenedWord {
-    happened: Happened,
-    words: Words,
-}
-
-// CKSN CLASSMARK: a number of an octet and exactly three octets.
-pub fn own_word(line: &[u8], words: Words) -> OwnWord {
-    let key = small_word(line, words, 255);
-    let key_words = key.words;
-    let mut three = [0u8; 3];
-    let mark = octets_word(line, key_words, &mut three, 0);
-    let rest = mark.words;
-    let exact = mark.count == 3;
-    let classmark = Classmark {
-        first: three[0],
-        second: three[1],
-        third: three[2],
-    };
-    let own = Own {
-        key: key.value,
-        classmark,
-    };
-    let next = Words {
-        at: rest.at,
-        good: rest.good & exact,
-    };
-    OwnWord { own, words: next }
-}
-
-// EVENT ETV EREF MODE.
-fn happened_word(line: &[u8], words: Words) -> HappenedWord {
-    let event = number_word(line, words, 4294967295);
-    let event_words = event.words;
-    let value = small_word(line, event_words, 255);
-    let value_words = value.words;
-    let call = reference_word(line, value_words);
-    let call_words = call.words;
-    let reference = call.reference;
-    let mode = small_word(line, call_words, 255);
-    let next = mode.words;
-    let happened = Happened {
-        number: event.value as u32,
-        value: value.value,
-        reference,
-        mode: mode.value,
-    };
-    HappenedWord {
-        happened,
-        words: next,
+fn row_of(table: Table) -> usize {
+    match version::protocol(table) {
+        Protocol::Broadcast => 0,
+        Protocol::Group => ROW,
     }
-}
-
-// Only whether the lent buffer has 255 octets matters, so no more are lent.
-fn room_of(length: u64) -> usize
-    ensures { λ r. ⌜ r ≤ 255 ⌝ }
-{
-    if length < 255 {
-        return length as usize;
-    }
-    255
 }
 
 // `step CONTEXT.. CKSN CLASSMARK IDENTITY BUFLEN EVENT ETV EREF MODE OCTETS`, and `gstep`, by the table of the one and of the other.
@@ -105,142 +33,141 @@ pub fn answer_step(
     buffer: &mut [u8],
     output: Output,
 ) -> Output {
-    let lent = lent_context(version::protocol(table), line, words);
-    let lent_words = lent.words;
-    let own = own_word(line, lent_words);
-    let own_words = own.words;
-    let identity = octets_word(line, own_words, octets, 0);
-    let identity_words = identity.words;
-    let named = identity.count;
-    let length = number_word(line, identity_words, 4294967295);
-    let length_words = length.words;
-    let room = room_of(length.value);
-    let event = happened_word(line, length_words);
-    let event_words = event.words;
-    let message = octets_word(line, event_words, octets, named);
-    let rest = message.words;
-    let received = message.count;
+    let mut record = [0u8; 36];
+    let rest = take_step_words(row_of(table), line, words, &mut record, octets);
     if !finished(line, rest) {
         return malformed(buffer, output);
     }
-    let said = own.own;
-    let happened = event.happened;
-    say_step(
+    say_step(table, &record, octets, buffer, output)
+}
+
+// The record: 0 to 8 STATE PARAMS TIMERS TV REF FROM, which are a context's first octets, 9 and 10 CHOOSER PENDING, which a group call alone has; 11 to 23 CKSN
+// CLASSMARK IDENTITY, which are the settings' octets; 24 BUFLEN, 25 EVENT, 26 ETV, 27 to 30 EREF, 31 MODE, 32 and 33 OCTETS. A group call has no T_pres among its
+// timers.
+fn take_step_words(
+    at: usize,
+    line: &[u8],
+    words: Words,
+    record: &mut [u8; 36],
+    octets: &mut [u8],
+) -> Words {
+    let forms = *b"8458R8..8MILL8R8O.......\
+        8448R8838MILL8R8O.......";
+    take_words(line, words, part(&forms, at, ROW), record, octets)
+}
+
+// 16 a value awaited + 8 a STATUS pending + 4 a termination request pending + who chose the value, of which 3 and more are nobody.
+fn talk_octet(chooser: u8, pending: u8) -> u8 {
+    let waits = 16 * (pending % 2) + 8 * (pending / 2 % 2) + 4 * (pending / 4 % 2);
+    if chooser < 3 {
+        return waits + chooser;
+    }
+    waits + 3
+}
+
+// Numbers that are no context come back as they were given, so where the octet tells nobody, it is who was `given`.
+fn chooser_of(talk: u8, given: u8) -> u8 {
+    if talk % 4 == 3 {
+        return given;
+    }
+    talk % 4
+}
+
+fn pending_of(talk: u8) -> u8 {
+    4 * (talk / 4 % 2) + 2 * (talk / 8 % 2) + talk / 16 % 2
+}
+
+fn number_of(octet: u8) -> u32 {
+    octet as u32
+}
+
+fn occurrence_of(record: &[u8; 36]) -> Occurrence {
+    Occurrence {
+        number: number_of(record[25]),
+        value: record[26],
+        mode: record[31],
+        first: record[27],
+        second: record[28],
+        third: record[29],
+        fourth: record[30],
+    }
+}
+
+fn context_of(record: &[u8; 36]) -> [u8; 16] {
+    let mut context = [0u8; 16];
+    copy_to(&mut context, 0, record, 0, 9);
+    context[9] = talk_octet(record[9], record[10]);
+    context
+}
+
+// Neither a step nor a judgement asks for the timers.
+pub fn settings_of(record: &[u8; 36]) -> [u8; 21] {
+    let mut settings = [0u8; 21];
+    copy_to(&mut settings, 0, record, 11, 13);
+    settings
+}
+
+// Only whether the lent buffer has 255 octets matters, so no more are lent.
+fn stepped(
+    table: Table,
+    record: &[u8; 36],
+    octets: &[u8],
+    context: &mut [u8; 16],
+    reply: &mut [u8],
+) -> Step {
+    let settings = settings_of(record);
+    let event = occurrence_of(record);
+    let room = up_to(record[24], reply.len());
+    let count = up_to(record[32], 255);
+    step_numbers::take_step(
         table,
-        buffer,
-        output,
-        lent.lent,
-        said,
-        part(octets, 0, named),
-        happened,
-        part(octets, named, received),
-        room,
+        context,
+        &settings,
+        event,
+        part(octets, 0, count),
+        &mut reply[0..room],
     )
 }
 
-// Numbers that are no context are as a context that is not fit: they come back as they were given.
 fn say_step(
     table: Table,
+    record: &[u8; 36],
+    octets: &[u8],
     buffer: &mut [u8],
     output: Output,
-    lent: Lent,
-    own: Own,
-    identity: &[u8],
-    happened: Happened,
-    octets: &[u8],
-    room: usize,
-) -> Output
-    requires { ⌜ room ≤ 255 ⌝ }
-{
-    match context_told(lent) {
-        Told::Is(context) => {
-            say_stepped(
-                table,
-                buffer,
-                output,
-                context,
-                own,
-                identity,
-                happened,
-                octets,
-                room,
-            )
-        }
-        Told::NoContext => {
-            let answer = say(buffer, output, b"7 ");
-            let same = say_lent(version::protocol(table), buffer, answer, lent);
-            say(buffer, same, b" 0 - 0\n")
-        }
-    }
+) -> Output {
+    let mut context = context_of(record);
+    let mut reply = [0u8; 255];
+    let step = stepped(table, record, octets, &mut context, &mut reply);
+    let outcome = outcome_of(&context, record[9], step);
+    say_outcome(row_of(table), buffer, output, &outcome, &reply)
 }
 
-fn say_stepped(
-    table: Table,
-    buffer: &mut [u8],
-    output: Output,
-    context: Context,
-    own: Own,
-    identity: &[u8],
-    happened: Happened,
-    octets: &[u8],
-    room: usize,
-) -> Output
-    requires { ⌜ room ≤ 255 ⌝ }
-{
-    let mut reply = [0u8; 255];
-    let stepped = radio::step_by(
-        table,
-        context,
-        own,
-        identity,
-        happened,
-        octets,
-        &mut reply[0..room],
-    );
-    say_outcome(version::protocol(table), buffer, output, stepped, &reply)
+fn octet(number: u32) -> u8 {
+    (number % 256) as u8
+}
+
+// ANSWER, the context, ACTIONS, the reply's count and place, REASON.
+fn outcome_of(context: &[u8; 16], given: u8, step: Step) -> [u8; 16] {
+    let mut outcome = [0u8; 16];
+    copy_to(&mut outcome, 1, context, 0, 9);
+    outcome[0] = octet(step.answer);
+    outcome[10] = chooser_of(context[9], given);
+    outcome[11] = pending_of(context[9]);
+    outcome[12] = octet(step.actions);
+    outcome[13] = (step.count % 256) as u8;
+    outcome[15] = octet(step.reason);
+    outcome
 }
 
 fn say_outcome(
-    protocol: Protocol,
+    at: usize,
     buffer: &mut [u8],
     output: Output,
-    stepped: Stepped,
+    outcome: &[u8; 16],
     reply: &[u8; 255],
 ) -> Output {
-    let outcome = stepped.outcome;
-    let count = outcome.count;
-    let after = say_after(protocol, buffer, output, stepped);
-    let sent = say_octets(buffer, after, part(reply, 0, count));
-    say_reason(buffer, sent, outcome.reason)
-}
-
-// The last token: why the message was ignored, 0 where none was.
-fn say_reason(buffer: &mut [u8], output: Output, reason: u8) -> Output {
-    let space = say(buffer, output, b" ");
-    let number = say_number(buffer, space, reason);
-    say(buffer, number, b"\n")
-}
-
-// The answer, the context afterwards and the actions.
-fn say_after(protocol: Protocol, buffer: &mut [u8], output: Output, stepped: Stepped) -> Output {
-    let after = stepped.context;
-    let outcome = stepped.outcome;
-    let answer = say_number(buffer, output, outcome.answer);
-    let space = say(buffer, answer, b" ");
-    let shown = say_context(protocol, buffer, space, after);
-    say_actions(buffer, shown, outcome.actions)
-}
-
-fn say_actions(buffer: &mut [u8], output: Output, actions: u8) -> Output {
-    let space = say(buffer, output, b" ");
-    let number = say_number(buffer, space, actions);
-    say(buffer, number, b" ")
-}
-
-// Octets in hexadecimal, `-` for none.
-fn say_octets(buffer: &mut [u8], output: Output, octets: &[u8]) -> Output {
-    if octets.len() == 0 {
-        return say(buffer, output, b"-");
-    }
-    say_hex(buffer, output, octets)
+    let forms = *b"8 8 8 8 8 R 8 ..8 O 8..\n\
+        8 8 8 8 8 R 8 8 8 8 O 8\n";
+    say_words(buffer, output, part(&forms, at, ROW), outcome, reply)
 }
