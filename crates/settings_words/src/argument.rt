@@ -1,5 +1,6 @@
 // Settings files as the arguments of a word.
 use crate::tell_settings;
+use codes::answer;
 use filing::arguments::has_arguments;
 use filing::read_argument;
 use filing::read_file;
@@ -44,7 +45,7 @@ pub fn settings_argument(word: &[u8]) -> Fitted {
     let count = filed.count;
     let read = read_settings(part(&file, 0, count));
     let settings = read.settings;
-    if read.answer != 0 {
+    if read.answer != answer::TAKEN {
         let verdict = tell_settings(part(&name, 0, length), part(&file, 0, count), filed.whole);
         return Fitted { verdict, settings };
     }

@@ -3,6 +3,7 @@ pub mod argument;
 mod fault;
 pub mod line;
 
+use codes::answer;
 use fault::tell_fault;
 use fault::tell_too_long;
 use libc::STDOUT_FILENO;
@@ -24,7 +25,7 @@ pub fn tell_settings(path: &[u8], file: &[u8], whole: bool) -> u8 {
     let settings = read.settings;
     tell(path);
     if whole {
-        if read.answer == settings::TAKEN {
+        if read.answer == answer::TAKEN {
             return tell_read(settings);
         }
         return tell_fault(file, line, fault);
