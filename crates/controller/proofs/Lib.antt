@@ -1,3 +1,2 @@
 pub mod Coincide
 pub mod Hosted
-pub mod Laws
