@@ -21,7 +21,13 @@ pub fn run_settings() -> u8 {
         return 2;
     }
     let count = filed.count;
-    tell_settings(part(&name, 0, length), part(&file, 0, count), filed.whole)
+    let read = read_settings(part(&file, 0, count));
+    tell_settings(
+        part(&name, 0, length),
+        part(&file, 0, count),
+        filed.whole,
+        read,
+    )
 }
 
 // The settings of a radio; or the verdict, 1 or 2, where there are none.
@@ -46,7 +52,12 @@ pub fn settings_argument(word: &[u8]) -> Fitted {
     let read = read_settings(part(&file, 0, count));
     let settings = read.settings;
     if read.answer != answer::TAKEN {
-        let verdict = tell_settings(part(&name, 0, length), part(&file, 0, count), filed.whole);
+        let verdict = tell_settings(
+            part(&name, 0, length),
+            part(&file, 0, count),
+            filed.whole,
+            read,
+        );
         return Fitted { verdict, settings };
     }
     Fitted {

@@ -11,15 +11,14 @@ use saying::tell;
 use saying::tell_hex;
 use saying::tell_number;
 use saying::tell_place;
-use settings::read_settings;
+use settings::ReadSettings;
 use settings_line::Fault;
 use settings_values::Settings;
 use text::words::part;
 
-// Tells the settings that `file`, the bytes of the file at `path`, holds, and answers the verdict. `whole` is false where the file has
-// more bytes than these.
-pub fn tell_settings(path: &[u8], file: &[u8], whole: bool) -> u8 {
-    let read = read_settings(file);
+// Tells what was read of `file`, the bytes of the file at `path`, and answers the verdict. `whole` is false where the file has more bytes
+// than these.
+pub fn tell_settings(path: &[u8], file: &[u8], whole: bool, read: ReadSettings) -> u8 {
     let line = read.line;
     let fault = read.fault;
     let settings = read.settings;
