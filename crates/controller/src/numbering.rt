@@ -2,6 +2,7 @@
 ghost use mathlib.Core.Path.{_≡_};
 ghost use Rattle.log_number.specs.Number.{numberAt};
 ghost use Rattle.controller.specs.Numbering.{numberShown};
+use codes::wide::answer;
 use log_number::Number;
 
 #[repr(C)]
@@ -18,12 +19,12 @@ pub extern "C" fn heidezirkel_read_number(octets: &[u8], at: usize) -> NumberRea
 {
     match log_number::read_number(octets, at) {
         Number::Value(value, next) => NumberRead {
-            answer: 0,
+            answer: answer::TAKEN,
             value,
             next,
         },
         Number::Unreadable => NumberRead {
-            answer: 8,
+            answer: answer::UNREADABLE_LOG,
             value: 0,
             next: 0,
         },

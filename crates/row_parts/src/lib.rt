@@ -10,6 +10,7 @@ ghost use Rattle.transitions.specs.declared.Note.the-variants as Note;
 ghost use Rattle.transitions.specs.declared.Stores.the-variants as Stores;
 ghost use Rattle.timer.specs.declared.Timer.the-variants.{NoTimer, MmEst, Term, ConnReq};
 ghost use Rattle.transitions.specs.Table.{asking, inviting, rowsOf, happenedIn};
+use codes::action;
 use codes::state::State;
 use context::Context;
 use timer::Timer;
@@ -24,7 +25,7 @@ use version::Table;
 // The rows that lead to U0 differ by their actions: none, ..
 pub const ENDS: Decision = Decision::Take(Taken {
     next: State::U0,
-    actions: 0,
+    actions: action::NONE,
     sends: Send::Nothing,
     stops: Timer::NoTimer,
     sets: Timer::NoTimer,
@@ -36,7 +37,7 @@ pub const ENDS: Decision = Decision::Take(Taken {
 // .. 8 abort, ..
 pub const ENDS_ABORTING: Decision = Decision::Take(Taken {
     next: State::U0,
-    actions: 8,
+    actions: action::ABORT,
     sends: Send::Nothing,
     stops: Timer::NoTimer,
     sets: Timer::NoTimer,
@@ -48,7 +49,7 @@ pub const ENDS_ABORTING: Decision = Decision::Take(Taken {
 // .. 16 release, ..
 pub const ENDS_RELEASING: Decision = Decision::Take(Taken {
     next: State::U0,
-    actions: 16,
+    actions: action::RELEASE,
     sends: Send::Nothing,
     stops: Timer::NoTimer,
     sets: Timer::NoTimer,
@@ -60,7 +61,7 @@ pub const ENDS_RELEASING: Decision = Decision::Take(Taken {
 // .. 1 inform higher layers and 8 abort.
 pub const ENDS_INFORMING_ABORTING: Decision = Decision::Take(Taken {
     next: State::U0,
-    actions: 9,
+    actions: action::INFORM + action::ABORT,
     sends: Send::Nothing,
     stops: Timer::NoTimer,
     sets: Timer::NoTimer,
@@ -89,7 +90,7 @@ pub fn terminated(table: Table, orig: bool) -> Decision
     if orig {
         return Decision::Take(Taken {
             next: State::U5,
-            actions: 0,
+            actions: action::NONE,
             sends: Send::TerminationRequest,
             stops: Timer::MmEst,
             sets: Timer::Term,
@@ -130,7 +131,7 @@ pub fn notified(table: Table) -> Decision
     let sets = inviting(table);
     Decision::Take(Taken {
         next: State::U3,
-        actions: 1,
+        actions: action::INFORM,
         sends: Send::Nothing,
         stops: Timer::NoTimer,
         sets,
@@ -147,7 +148,7 @@ pub fn joined(table: Table) -> Decision
     let stops = inviting(table);
     Decision::Take(Taken {
         next: State::U4,
-        actions: 4,
+        actions: action::REQUEST_GROUP_RECEIVE,
         sends: Send::Nothing,
         stops,
         sets: Timer::ConnReq,

@@ -2,7 +2,7 @@
 use Prim.Native.Nat.{ℕ}
 use mathlib.Core.Path.{_≡_, refl}
 use mathlib.Core.List.{List, [], _∷_, _++_}
-use Rattle.codes.specs.Attributes.{weighs}
+use Rattle.codes.specs.Attributes.{parametersNumber, weighs}
 use Rattle.context.specs.Remembered.{remembering, returning}
 use Rattle.context.specs.Context.{startRow, setRow, entering, cleared}
 use Rattle.fitness.specs.Fitness.{consistentBy, timersFitBy, rememberedFitBy, chooserFitBy, pendingFitBy, talkFitBy, isCleared, fitBy}
@@ -28,7 +28,7 @@ use Rattle.log.specs.Reading.{restAt, entryAt}
 use Rattle.table.specs.Judge.{narrow, turn, judgeFrom, judge}
 use Rattle.table.specs.Reading.{entriesIn, entries}
 use Rattle.table.specs.TwoTimers.{judgeTwo}
-use Rattle.verdict.specs.Table.{tellsInvitation, parametersNumber, agree}
+use Rattle.verdict.specs.Table.{tellsInvitation, agree}
 use Rattle.verdict.specs.Judge.{invitationTold, versionJudged, judgeOf, answerNumber, answerValues}
 
 -- Settings in range; none of these logs asks for what they are.

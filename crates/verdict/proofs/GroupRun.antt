@@ -3,7 +3,7 @@
 use Prim.Native.Nat.{ℕ}
 use mathlib.Core.Path.{_≡_, refl}
 use mathlib.Core.List.{List, [], _∷_}
-use Rattle.codes.specs.Attributes.{parametersOf, weighs, attributesOf}
+use Rattle.codes.specs.Attributes.{parametersOf, weighs, attributesOf, parametersNumber}
 use Rattle.codes.specs.CallStates.{callStateOf, callStateCode}
 use Rattle.codes.specs.Protocol.{discriminator}
 use Rattle.element.specs.Counted.{countedAt}
@@ -38,7 +38,7 @@ use Rattle.table.specs.Judge.{narrow, turn, judgeFrom, judge}
 use Rattle.table.specs.Reading.{entriesIn, entries}
 use Rattle.table.specs.TwoTimers.{judgeTwo}
 use Rattle.message.specs.declared.Own.{Own}
-use Rattle.verdict.specs.Table.{parametersNumber, agree, tellsInvitation}
+use Rattle.verdict.specs.Table.{agree, tellsInvitation}
 use Rattle.verdict.specs.Judge.{invitationTold, versionJudged, judgeOf, answerNumber, answerValues}
 
 abbrev own : Own

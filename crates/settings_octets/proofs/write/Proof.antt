@@ -32,4 +32,4 @@ write-spec =
     (λ c. search needs)
     (λ c. search needs)
     (λ c.
-    rw (← c .before .before .before .length-octet .ensures, c .before .before .timer-octets .ensures, c .before .timer-octets2 .ensures)))
+    rw (← c .before .before .before .length-octet .ensures, c .before .before .little .ensures, c .before .little2 .ensures)))
