@@ -268,9 +268,9 @@ struct heidezirkel_step heidezirkel_step(uint8_t context[16], const uint8_t sett
  * and may speak are D-ATT and U-ATT, as ever.
  *
  * What waits. A termination that the user asks for, and a STATUS that the cell asks for, while COMM is false are taken (0, nothing sent) and kept in octet 9;
- * from U2r the radio asks to talk, so that it can send. They go out with the step that makes COMM true. So the reply of one step may hold two messages, one
- * behind the other: SETUP and STATUS, or STATUS and TERMINATION REQUEST. Each has 6 octets, and no other reply of answer 0 has 12: send the two one by
- * one. */
+ * from U2r the radio asks to talk, so that it can send. They go out with the step that makes COMM true, a termination once ORIG is true too. So the reply of
+ * one step may hold two messages, one behind the other: SETUP and STATUS, or STATUS and TERMINATION REQUEST. Each has 6 octets, and no other reply of answer 0
+ * has 12: send the two one by one. */
 struct heidezirkel_step heidezirkel_group_step(uint8_t context[16], const uint8_t settings[21], struct heidezirkel_event event,
     const uint8_t *message, size_t message_length, uint8_t *reply, size_t reply_room);
 
