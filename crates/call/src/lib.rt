@@ -235,7 +235,7 @@ pub fn seen_event(event: Event) -> Seen
         Event::NoChannelExpired => Seen::bare(event::NO_CHANNEL_EXPIRED),
         Event::Received(_, value, message) => seen_message(value, message),
         Event::PresExpired => Seen::bare(event::PRES_EXPIRED),
-        Event::ReceiveModeRequested => Seen::bare(event::STOP_TALKING),
+        Event::ReceiveModeRequested => Seen::bare(event::RECEIVE_MODE),
         Event::TalkRequested => Seen::bare(event::TALK),
         Event::TransmitModeEntered => Seen::bare(event::GROUP_TRANSMIT),
         Event::DedicatedModeEntered => Seen::bare(event::DEDICATED),

@@ -39,7 +39,7 @@ pub const RECEIVED: u8 = 18;
 pub const PRES_EXPIRED: u8 = 19;
 
 // A group call's, request A5.
-pub const STOP_TALKING: u8 = 32;
+pub const RECEIVE_MODE: u8 = 32;
 
 pub const TALK: u8 = 33;
 

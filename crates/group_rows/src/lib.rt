@@ -338,7 +338,7 @@ fn in_sub_state(state: State, asked: Decision, context: Context, number: u8) -> 
 fn in_u2sl(context: Context, number: u8) -> Decision
     ensures { λ r. ⌜ r ≡ happenedIn (rowsOf Group Table.Group) U2sl context number ⌝ }
 {
-    if number == event::STOP_TALKING {
+    if number == event::RECEIVE_MODE {
         return RECEIVE_MODE_REQUESTED;
     }
     let asked = staying(State::U2sl, Note::TerminationPends);
@@ -374,7 +374,7 @@ fn in_u2ws(context: Context, number: u8) -> Decision
 fn in_u2sr(context: Context, number: u8) -> Decision
     ensures { λ r. ⌜ r ≡ happenedIn (rowsOf Group Table.Group) U2sr context number ⌝ }
 {
-    if number == event::STOP_TALKING {
+    if number == event::RECEIVE_MODE {
         return RECEIVE_MODE_REQUESTED;
     }
     let asked = staying(State::U2sr, Note::TerminationPends);

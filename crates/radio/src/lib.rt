@@ -67,7 +67,7 @@ fn event_of(number: u32, value: u8, reference: Reference) -> Told
         event::NO_CHANNEL_EXPIRED => Told::Is(Event::NoChannelExpired),
         event::RECEIVED => Told::NoEvent,
         event::PRES_EXPIRED => Told::Is(Event::PresExpired),
-        event::STOP_TALKING => Told::Is(Event::ReceiveModeRequested),
+        event::RECEIVE_MODE => Told::Is(Event::ReceiveModeRequested),
         event::TALK => Told::Is(Event::TalkRequested),
         event::GROUP_TRANSMIT => Told::Is(Event::TransmitModeEntered),
         event::DEDICATED => Told::Is(Event::DedicatedModeEntered),

@@ -24,7 +24,7 @@ pub const GROUP_LAST: [u8; 105] =
     delete-pending-termination";
 
 // The number before those of a group call.
-const BEFORE_GROUP: u8 = event::STOP_TALKING - 1;
+const BEFORE_GROUP: u8 = event::RECEIVE_MODE - 1;
 
 // The place of a word among others, counted from 1; 0 where it is none of them.
 fn place_among(names: &[u8], name: &[u8]) -> u8 {

@@ -39,7 +39,7 @@ pub const RECEIVED: u32 = event::RECEIVED as u32;
 
 pub const PRES_EXPIRED: u32 = event::PRES_EXPIRED as u32;
 
-pub const STOP_TALKING: u32 = event::STOP_TALKING as u32;
+pub const RECEIVE_MODE: u32 = event::RECEIVE_MODE as u32;
 
 pub const TALK: u32 = event::TALK as u32;
 
