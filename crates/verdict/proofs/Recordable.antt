@@ -31,8 +31,8 @@ use Rattle.log.specs.Layout.{Field, number, eventNumber, octets, allInRange, da
 use Rattle.recorder.specs.Recording.{added, recordAnswer, answerNumber}
 use Rattle.recorder.specs.declared.Recorded.{Recorded}
 use Rattle.recorder.specs.declared.Recorded.the-variants.{Used, OutOfRange, TooLong, NoRoom}
-use Rattle.table.specs.Log.{Entry}
-use Rattle.table.specs.Recorded.{Move, entryOf}
+use Rattle.judge_laws.specs.Log.{Entry}
+use Rattle.judge_laws.specs.Recorded.{Move, entryOf}
 use Rattle.verdict.specs.Table.{GivenEvent, claimOf, stepped, steps, recordable}
 use Rattle.verdict.specs.Entries.{meantBy}
 
