@@ -37,12 +37,13 @@ use Rattle.call.specs.declared.Due.{Due}
 use Rattle.call.specs.declared.Due.the-variants.{Steps, Ignored, Reported, Refused}
 use Rattle.call.specs.declared.Reason.{Reason}
 use Rattle.call.specs.declared.Seen.{Seen}
+use Rattle.call.specs.declared.Sending.the-variants.{OfRow}
 use Rattle.call.specs.declared.Settled.{Settled}
 use Rattle.call.specs.Events.{seenOf}
 use Rattle.call.specs.Talk.{noted, adopted, awaitingAfter, sentIn, unsent, flushed}
 use Rattle.call.specs.Step.{parametersAfter, afterwards, ignored, noStep, reportedWith, statusTold, withParameters, parametersSet, carriedOut, stepBy}
 use Rattle.call.specs.Due.{settledBy, settled}
-use Rattle.call.specs.Waiting.{numberDue, asksStatus}
+use Rattle.call.specs.Waiting.{asRow, numberDue, asksStatus}
 use Rattle.call.proofs.Kept.{after, unnamed, request-noted, status-noted, chooser-noted, none-due, none-asked}
 use Rattle.call.proofs.Together.{Alike, adopted-alike, refuted}
 
@@ -306,3 +307,40 @@ module _ (x : Context) (fit : fitOf Group x ≡ true) where
   leads (Ignored reason) = ignored-comes 0 false reason
   leads (Reported cause) = reported-comes 0 false cause
   leads Refused = none-comes 0 false
+
+-- ---- what a row sends itself
+
+-- No row of a group call sends a TERMINATION REQUEST: each is one that waited, if only for the step that asked for it.
+abbrev noRequest : Test
+noRequest n s t r d = not (asRow (OfRow (d .sends)))
+
+no-request : passes noRequest (stepTable Group) ≡ true
+unfolding stepTable protocolOf returning
+no-request = refl
+
+module _ (x : Context) where
+  abbrev Waited : Settled → Type 0
+  Waited r = asRow (r .sends) ≡ false
+
+  reported-waited : (cause : ℕ) → Waited (reportedWith cause x)
+  unfolding reportedWith ignored
+  reported-waited cause = at-cond Waited (x .parameters .comm) _ _ (λ e. refl) (λ e. refl)
+
+  carried-waited : (d : Decision) (e : Seen) → OfTaken (λ t. asRow (OfRow (t .sends)) ≡ false) d → Waited (carriedOut (fitnessOf Group) x d e)
+  unfolding carriedOut noStep ignored statusTold parametersSet
+  carried-waited (Take d) e n = n
+  carried-waited NoStep e n = refl
+  carried-waited Ignore e n = refl
+  carried-waited (Report cause) e n = reported-waited cause
+  carried-waited TellStatus e n = at-cond Waited (x .parameters .comm) _ _ (λ q. refl) (λ q. refl)
+  carried-waited SetParameters e n = at-cond Waited (consistentBy (fitnessOf Group) (x .state) (parametersOf (e .attributes))) _ _ (λ q. refl) (λ q. reported-waited 98)
+
+  pub none-of-a-row : (due : Due) → Waited (settled Group x due)
+  unfolding settledBy stepBy ignored noStep
+  none-of-a-row (Steps event) =
+      carried-waited _ (seenOf event)
+      (decided-holds noRequest (λ k. OfTaken (λ t. asRow (OfRow (t .sends)) ≡ false)) x (λ k d e. not-true _ e) (λ k. tt) (λ cause. tt) (stepTable Group) no-request (λ u. tt) tt (λ u. tt)
+      (seenOf event .number) (seenOf event .code))
+  none-of-a-row (Ignored reason) = refl
+  none-of-a-row (Reported cause) = reported-waited cause
+  none-of-a-row Refused = refl

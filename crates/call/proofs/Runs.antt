@@ -1,10 +1,10 @@
 -- Runs of a group call, in so many words. What waits goes out with the first step behind which it can, exactly once: a request where ORIG and COMM are both true, a STATUS where COMM
 -- is, and the STATUS before the request. The flag that is expected goes by who chose the value, and stays so until U0.
 use Prim.Native.Nat.{ℕ, _+_}
-use mathlib.Core.Path.{_≡_, refl, sym, subst, _∙_}
+use mathlib.Core.Path.{_≡_, refl, sym, ap, subst, _∙_}
 use mathlib.Core.List.{List, [], _∷_, _++_}
 use mathlib.Core.Logic.{_⊎_, inl, inr}
-use mathlib.Core.Bool.{Bool, true, false, cond, not, _&&_, _||_, and-true, and-false}
+use mathlib.Core.Bool.{Bool, true, false, cond, not, _&&_, _||_, and-true, and-false, or-false}
 use lib.Dec.{eqb, leb}
 use native.Mathlib.Omega.{arith}
 use borrow.Author.Tests.{not-true}
@@ -43,11 +43,11 @@ use Rattle.call.specs.Events.{seenOf}
 use Rattle.call.specs.Talk.{noted, adopted, awaitingAfter, sentIn, answered, requested, flushed}
 use Rattle.call.specs.Step.{parametersAfter, afterwards, silent, carriedOut, stepBy}
 use Rattle.call.specs.Due.{settledBy, settled}
-use Rattle.call.specs.Waiting.{bothTrue, numberDue, asksStatus, leadsTo, howOften, Throughout, Each}
+use Rattle.call.specs.Waiting.{sendsRequest, bothTrue, numberDue, asksStatus, leadsTo, howOften, Throughout, Each}
 use Rattle.call.proofs.Kept.{DueFit, none-due, settled-fit}
 use Rattle.call.proofs.Pending.{cleared-flushed}
 use Rattle.call.proofs.Together.{Together, together}
-use Rattle.call.proofs.Leads.{Leads, leads}
+use Rattle.call.proofs.Leads.{Leads, leads, none-of-a-row}
 
 -- ---- what is sent of a context
 
@@ -247,14 +247,19 @@ module _ (waits : Context → Bool) (goes : Settled → Bool) (asked : Due → B
       = one-more (goes (settled Group y due)) _ (no-more (settled Group y due .context) (settled-fit Group y y-fit due fits) (gone y y-fit due goes-there) more ranged-more unasked) in
       often-both x before (due ∷ more) ∙ rw (not-yet x fit before ranged waiting, last, goes-there)
 
--- A termination request that waits goes out with the first step behind which ORIG and COMM are both true, and with no other, until event 4 asks for another.
+-- A termination request that waits goes out with the first step behind which ORIG and COMM are both true, and no other TERMINATION REQUEST goes out until event 4 asks for one.
+request-is : (x : Context) (due : Due) → sendsRequest (settled Group x due) ≡ settled Group x due .sent .request
+request-is x due = ap (λ (t : Bool). settled Group x due .sent .request || t) (none-of-a-row x due) ∙ or-false (settled Group x due .sent .request)
+
 pub request-once : (x : Context) → fitOf Group x ≡ true → x .talk .termination ≡ true
     → (before : List Due) → InRange before → Throughout (λ y. y .talk .termination ≡ true) x before
     → (due : Due) → DueFit due → bothTrue (settled Group (leadsTo x before) due) ≡ true
-    → (more : List Due) → InRange more → Each (λ due. eqb (numberDue due) 4 ≡ false) more → howOften (λ r. r .sent .request) x (before ++ (due ∷ more)) ≡ 1
+    → (more : List Due) → InRange more → Each (λ due. eqb (numberDue due) 4 ≡ false) more → howOften sendsRequest x (before ++ (due ∷ more)) ≡ 1
 request-once x fit waits before ranged waiting due fits both =
-    once (λ y. y .talk .termination) (λ r. r .sent .request) (λ due. eqb (numberDue due) 4) (λ x f due e. request-sent x f due e .2) request-asked x fit before ranged waiting due fits
-    (request-goes (leadsTo x before) (run-fit x fit before ranged) due (at-the-end (λ y. y .talk .termination ≡ true) x waits before waiting) ∙ both)
+    once (λ y. y .talk .termination) sendsRequest (λ due. eqb (numberDue due) 4) (λ x f due e. request-sent x f due (sym (request-is x due) ∙ e) .2)
+    (λ x f due other none. let (a, b) = request-asked x f due other none in (request-is x due ∙ a, b)) x fit before ranged waiting due fits
+    (request-is (leadsTo x before) due
+    ∙ request-goes (leadsTo x before) (run-fit x fit before ranged) due (at-the-end (λ y. y .talk .termination ≡ true) x waits before waiting) ∙ both)
 
 -- So does a STATUS, with the first step behind which COMM is true, until another GET STATUS asks for it.
 pub status-once : (x : Context) → fitOf Group x ≡ true → x .talk .status ≡ true

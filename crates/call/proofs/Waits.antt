@@ -112,20 +112,20 @@ told-at-once : (y : Context) → y .parameters .comm ≡ true → y .talk .statu
 unfolding flushed sentIn
 told-at-once y speaks none unasked = rw (speaks, unasked, none)
 
--- Events that are no message, by their row that stays or that asks to talk.
-module _ (x : Context) where
-  seen-4 : seenOf Terminate ≡ bare 4
-  unfolding seenOf
-  seen-4 = refl
+seen-4 : seenOf Terminate ≡ bare 4
+unfolding seenOf
+seen-4 = refl
 
-  seen-36 : seenOf TerminationDeleted ≡ bare 36
-  unfolding seenOf
-  seen-36 = refl
+seen-36 : seenOf TerminationDeleted ≡ bare 36
+unfolding seenOf
+seen-36 = refl
 
-  row-stays : (n : ℕ) (note : Note) → eqb n 18 ≡ false → same (x .state) U0 ≡ false → carriedOut (fitnessOf Group) x (Take (stayRow (x .state) note)) (bare n) ≡ took (withTalk (noted note (x .talk)) x) 0 silent
-  unfolding carriedOut
-  row-stays n note e called =
-      ap (λ (y : Context). took y 0 silent) (ap (λ (y : Context). afterwards y (stayRow (x .state) note) (bare n)) (unadopted x n e) ∙ stayed x (x .state) note (bare n) refl called)
+-- An event that is no message, by its row that stays.
+row-stays : (x : Context) (n : ℕ) (note : Note) → eqb n 18 ≡ false → same (x .state) U0 ≡ false
+    → carriedOut (fitnessOf Group) x (Take (stayRow (x .state) note)) (bare n) ≡ took (withTalk (noted note (x .talk)) x) 0 silent
+unfolding carriedOut
+row-stays x n note e called =
+    ap (λ (y : Context). took y 0 silent) (ap (λ (y : Context). afterwards y (stayRow (x .state) note) (bare n)) (unadopted x n e) ∙ stayed x (x .state) note (bare n) refl called)
 
 -- The states where a request can be asked for are not U0.
 calling : (s : State) → among s (U1 ∷ subStates) ≡ true → same s U0 ≡ false
@@ -166,7 +166,6 @@ term-alone t e =
     let told : record { mmest = t .mmest; term = t .term; connreq = t .connreq; nochannel = t .nochannel; pres = t .pres } ≡ alone (timerNumber Term) = rw (mm-est, term, conn-req, no-channel, pres) in
     told
 
--- In U2r COMM is false, and elsewhere the radio stays.
 module _ (x : Context) (fit : fitOf Group x ≡ true) where
   abbrev good : SoundFitness (fitnessOf Group)
   good = rows-sound Group .fitness-sound
@@ -180,7 +179,7 @@ module _ (x : Context) (fit : fitOf Group x ≡ true) where
   asked : among (x .state) staying ≡ true → same (x .state) U0 ≡ false → x .parameters .orig ≡ true → stepValue Group x Terminate ≡ took (withRequest true x) 0 silent
   unfolding noted
   asked there called owns =
-      step-in Group x (x .state) Terminate 4 (seen-4 x) (λ e. omega (arith, e)) refl (Take (stayRow (x .state) Note.TerminationPends)) (row-of-4 x (x .state) ∙ rw (there, owns))
+      step-in Group x (x .state) Terminate 4 seen-4 (λ e. omega (arith, e)) refl (Take (stayRow (x .state) Note.TerminationPends)) (row-of-4 x (x .state) ∙ rw (there, owns))
       ∙ row-stays x 4 Note.TerminationPends refl called
 
   -- COMM true: not in U2r, no request waits where ORIG is true too, and no STATUS waits.
@@ -227,7 +226,7 @@ module _ (x : Context) (fit : fitOf Group x ≡ true) where
       → stepValue Group x Terminate ≡ comes (askingToTalk (withRequest true x)) 64 (unsent (askingToTalk (withRequest true x)))
   unfolding carriedOut noted awaitingAfter entering setRow startRow
   waits-to-talk here owns =
-      step-in Group x U2r Terminate 4 (seen-4 x) (λ e. omega (arith, e)) here (Take (talkRow Note.TerminationPends)) (row-of-4 x U2r ∙ rw owns)
+      step-in Group x U2r Terminate 4 seen-4 (λ e. omega (arith, e)) here (Take (talkRow Note.TerminationPends)) (row-of-4 x U2r ∙ rw owns)
       ∙ ap (λ (y : Context). took y 64 silent)
       (ap (λ (y : Context). afterwards y (talkRow Note.TerminationPends) (bare 4)) (unadopted x 4 refl) ∙ talked x Note.TerminationPends (bare 4) here ∙ rw (owns, or-false (x .talk .awaiting)))
       ∙ unspoken (askingToTalk (withRequest true x)) 64 refl
@@ -236,7 +235,7 @@ module _ (x : Context) (fit : fitOf Group x ≡ true) where
 module _ (x : Context) where
   refused-by : (d : Decision) → d ≡ NoStep → happenedIn (stepTable Group) (x .state) x 4 ≡ d → stepValue Group x Terminate ≡ noStep x
   unfolding carriedOut
-  refused-by d e h = step-in Group x (x .state) Terminate 4 (seen-4 x) (λ e. omega (arith, e)) refl NoStep (h ∙ e)
+  refused-by d e h = step-in Group x (x .state) Terminate 4 seen-4 (λ e. omega (arith, e)) refl NoStep (h ∙ e)
 
   pub not-the-originator : x .parameters .orig ≡ false → stepValue Group x Terminate ≡ noStep x
   not-the-originator e = refused-by _ (rw (e, cond-same (same (x .state) U2r) NoStep, cond-same (among (x .state) staying) NoStep)) (row-of-4 x (x .state))
@@ -249,13 +248,13 @@ module _ (x : Context) where
   pub nothing-to-take-back : x .talk .termination ≡ false → stepValue Group x TerminationDeleted ≡ noStep x
   unfolding carriedOut
   nothing-to-take-back e =
-      step-in Group x (x .state) TerminationDeleted 36 (seen-36 x) (λ e. omega (arith, e)) refl NoStep (row-of-36 x (x .state) ∙ rw (e, cond-same (among (x .state) (U1 ∷ subStates)) NoStep))
+      step-in Group x (x .state) TerminationDeleted 36 seen-36 (λ e. omega (arith, e)) refl NoStep (row-of-36 x (x .state) ∙ rw (e, cond-same (among (x .state) (U1 ∷ subStates)) NoStep))
 
   pub taken-back : fitOf Group x ≡ true → x .talk .termination ≡ true → stepValue Group x TerminationDeleted ≡ comes (withRequest false x) 0 (unsent x)
   unfolding noted sentIn
   taken-back fit waits =
       let there : among (x .state) (U1 ∷ subStates) ≡ true = requests-there (x .state) (requesting-there (fitnessOf Group) (rows-sound Group .fitness-sound) x fit waits) in
-      step-in Group x (x .state) TerminationDeleted 36 (seen-36 x) (λ e. omega (arith, e)) refl (Take (stayRow (x .state) Note.TerminationDropped)) (row-of-36 x (x .state) ∙ rw (there, waits))
+      step-in Group x (x .state) TerminationDeleted 36 seen-36 (λ e. omega (arith, e)) refl (Take (stayRow (x .state) Note.TerminationDropped)) (row-of-36 x (x .state) ∙ rw (there, waits))
       ∙ row-stays x 36 Note.TerminationDropped refl (calling (x .state) there)
       ∙ undue (withRequest false x) 0 (none-asked (fitnessOf Group) (rows-sound Group .fitness-sound) x fit) (rw (and-false (x .parameters .orig), and-false (x .parameters .comm)))
 

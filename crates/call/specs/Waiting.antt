@@ -2,7 +2,7 @@
 -- "as soon as COMM = T".
 use Prim.Native.Nat.{ℕ, _+_}
 use mathlib.Core.List.{List, [], _∷_}
-use mathlib.Core.Bool.{Bool, true, false, cond, not, _&&_}
+use mathlib.Core.Bool.{Bool, true, false, cond, not, _&&_, _||_}
 use lib.Dec.{eqb}
 use Rattle.codes.specs.declared.state.State.the-variants.{U5, U2ws}
 use Rattle.codes.specs.MessageTypes.{GET-STATUS}
@@ -13,9 +13,12 @@ use Rattle.context.specs.declared.Context.{Context}
 use Rattle.context.specs.declared.Talk.{Talk}
 use Rattle.context.specs.Context.{startRow, entering}
 use Rattle.context.specs.Remembered.{remembering}
+use Rattle.transitions.specs.declared.Send.the-variants as Send
 use Rattle.call.specs.declared.Due.{Due}
 use Rattle.call.specs.declared.Due.the-variants.{Steps, Ignored, Reported, Refused}
 use Rattle.call.specs.declared.Seen.{Seen}
+use Rattle.call.specs.declared.Sending.{Sending}
+use Rattle.call.specs.declared.Sending.the-variants.{OfRow, Status, ErrorStatus}
 use Rattle.call.specs.declared.Sent.{Sent}
 use Rattle.call.specs.declared.Settled.{Settled}
 use Rattle.call.specs.Events.{seenOf}
@@ -82,6 +85,18 @@ aRequest x = record { status = false; request = true; state = x .state; paramete
 
 abbrev pub aStatus : Context → Sent
 aStatus x = record { status = true; request = false; state = x .state; parameters = x .parameters }
+
+-- A TERMINATION REQUEST goes out with a step: the row's own, or one that waited.
+abbrev pub asRow : Sending → Bool
+asRow (OfRow Send.Nothing) = false
+asRow (OfRow Send.ImmediateSetup) = false
+asRow (OfRow Send.Setup) = false
+asRow (OfRow Send.TerminationRequest) = true
+asRow (Status cause) = false
+asRow (ErrorStatus cause) = false
+
+abbrev pub sendsRequest : Settled → Bool
+sendsRequest r = r .sent .request || asRow (r .sends)
 
 -- ORIG and COMM are both true behind a step, before that makes anything due.
 abbrev pub bothTrue : Settled → Bool
