@@ -6,11 +6,8 @@ ghost use Rattle.codes.specs.declared.protocol.Protocol.the-variants.{Broadcast
 ghost use Rattle.context.specs.Context.{cleared};
 ghost use Rattle.transitions.specs.declared.Decision.the-variants.{NoStep};
 ghost use Rattle.transitions.specs.Table.{asking, inviting, rowsOf, happenedIn};
-<<<<<<< HEAD
-use codes::action;
-=======
 ghost use Rattle.row_parts.specs.Asked.{originating};
->>>>>>> 1475c35db45117884688fe17356707f61bd1ae7c
+use codes::action;
 use codes::state::State;
 use context::Context;
 use timer::Timer;
