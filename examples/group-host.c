@@ -160,14 +160,14 @@ static const struct happening answered[] = {
     {20400, "group transmit mode", EVENT(HEIDEZIRKEL_EVENT_GROUP_TRANSMIT)},
     {21000, "GET STATUS", MESSAGE, 2, {0x40, 0x39}},
     {22000, "SET PARAMETER with COMM", MESSAGE, 3, {0x40, 0x3a, 0x0e}},
-    {30000, "stop talking", EVENT(HEIDEZIRKEL_EVENT_STOP_TALKING)},
+    {30000, "ask for receive mode", EVENT(HEIDEZIRKEL_EVENT_RECEIVE_MODE)},
     {30500, "group receive mode", EVENT(HEIDEZIRKEL_EVENT_GROUP_RECEIVE)},
     {60000, "TERMINATION", MESSAGE, 4, {0x40, 0x34, 0x01, 0x90}},
 };
 static const struct happening led[] = {
     {100000, "immediate set-up", CALL(HEIDEZIRKEL_EVENT_IMMEDIATE_SET_UP, 1), 0, {0}},
     {100800, "CONNECT", MESSAGE, 7, {0x90, 0x33, 0x00, 0x00, 0x01, 0x20, 0x01}},
-    {110000, "stop talking", EVENT(HEIDEZIRKEL_EVENT_STOP_TALKING)},
+    {110000, "ask for receive mode", EVENT(HEIDEZIRKEL_EVENT_RECEIVE_MODE)},
     {110500, "group receive mode", EVENT(HEIDEZIRKEL_EVENT_GROUP_RECEIVE)},
     {115000, "GET STATUS", MESSAGE, 2, {0x90, 0x39}},
     {115200, "terminate", EVENT(HEIDEZIRKEL_EVENT_TERMINATE)},

@@ -213,7 +213,7 @@ enum { /* what happens: the numbers of events */
     HEIDEZIRKEL_EVENT_RECEIVED = 18,          /* lower layers: a message came; carries mode and octets */
     HEIDEZIRKEL_EVENT_PRES_EXPIRED = 19,      /* the host's clock, as 14 to 17; not of a group call */
     /* Of a group call alone: */
-    HEIDEZIRKEL_EVENT_STOP_TALKING = 32,      /* the user asks for receive mode */
+    HEIDEZIRKEL_EVENT_RECEIVE_MODE = 32,      /* the user asks for receive mode: stops talking */
     HEIDEZIRKEL_EVENT_TALK = 33,              /* the user asks to talk */
     HEIDEZIRKEL_EVENT_GROUP_TRANSMIT = 34,    /* lower layers: group transmit mode is entered */
     HEIDEZIRKEL_EVENT_DEDICATED = 35,         /* lower layers: dedicated mode is entered */
@@ -268,9 +268,9 @@ struct heidezirkel_step heidezirkel_step(uint8_t context[16], const uint8_t sett
  * and may speak are D-ATT and U-ATT, as ever.
  *
  * What waits. A termination that the user asks for, and a STATUS that the cell asks for, while COMM is false are taken (0, nothing sent) and kept in octet 9;
- * from U2r the radio asks to talk, so that it can send. They go out with the step that makes COMM true. So the reply of one step may hold two messages, one
- * behind the other: SETUP and STATUS, or STATUS and TERMINATION REQUEST. Each has 6 octets, and no other reply of answer 0 has 12: send the two one by
- * one. */
+ * from U2r the radio asks to talk, so that it can send. They go out with the step that makes COMM true, a termination once ORIG is true too. So the reply of
+ * one step may hold two messages, one behind the other: SETUP and STATUS, or STATUS and TERMINATION REQUEST. Each has 6 octets, and no other reply of answer 0
+ * has 12: send the two one by one. */
 struct heidezirkel_step heidezirkel_group_step(uint8_t context[16], const uint8_t settings[21], struct heidezirkel_event event,
     const uint8_t *message, size_t message_length, uint8_t *reply, size_t reply_room);
 
@@ -368,7 +368,7 @@ struct heidezirkel_used heidezirkel_record(uint8_t *log, size_t room, size_t use
     size_t reply_length);
 
 /* The same for a step of a group call: events 1 to 18 and 32 to 36, states to 13 and actions to 127 are in range, and with 0 used the version is 16. What it
- * adds to a log of broadcast calls the judge refuses, since the bytes already used are not looked at. */
+ * adds to a log of broadcast calls the judge may refuse, or take for a step of a broadcast call, since the bytes already used are not looked at. */
 struct heidezirkel_used heidezirkel_group_record(uint8_t *log, size_t room, size_t used, uint32_t delta_ms, struct heidezirkel_event event,
     const uint8_t *message, size_t message_length, struct heidezirkel_step step, const uint8_t context[16], const uint8_t *reply,
     size_t reply_length);

@@ -49,7 +49,7 @@ notified value reference = refl
 -- ---- the rows
 
 -- The step of an event that carries nothing, by its row in the context's state.
-step-in : (table : Table) (x : Context) (s : State) (event : Event) (n : ℕ) → seenOf event ≡ bare n → (n ≡ 18 → ⊥) → x .state ≡ s
+pub step-in : (table : Table) (x : Context) (s : State) (event : Event) (n : ℕ) → seenOf event ≡ bare n → (n ≡ 18 → ⊥) → x .state ≡ s
     → (d : Decision) → happenedIn (stepTable table) s x n ≡ d → stepValue table x event ≡ carriedOut (fitnessOf table) x d (bare n)
 unfolding stepBy
 step-in table x s event n b o e d h =

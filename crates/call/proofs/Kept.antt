@@ -93,7 +93,7 @@ unfolding afterwards
 enters-cleared x d e u = rw u
 
 -- Where the message does not name the originator, ORIG is as it was.
-unnamed : (stores : Stores) (attributes : ℕ) (p : Parameters) → namesOriginator stores ≡ false → originating stores attributes p ≡ p
+pub unnamed : (stores : Stores) (attributes : ℕ) (p : Parameters) → namesOriginator stores ≡ false → originating stores attributes p ≡ p
 unfolding originating
 unnamed Nothing attributes p e = refl
 unnamed ValueAndReference attributes p e = refl
@@ -101,7 +101,7 @@ unnamed ItsReference attributes p e = refl
 unnamed ItsReferenceAndOriginator attributes p e = never (sym e)
 
 -- What is pending after a row was pending, or is noted by it.
-request-noted : (note : Note) (k : Talk) → noted note k .termination ≡ true → (k .termination || pendsTermination note) ≡ true
+pub request-noted : (note : Note) (k : Talk) → noted note k .termination ≡ true → (k .termination || pendsTermination note) ≡ true
 unfolding noted
 request-noted Note.Nothing k e = rw e
 request-noted Note.WeChose k e = rw e
@@ -110,7 +110,7 @@ request-noted Note.TerminationPends k e = either-true (k .termination)
 request-noted Note.StatusPends k e = rw e
 request-noted Note.TerminationDropped k e = never e
 
-status-noted : (note : Note) (k : Talk) → noted note k .status ≡ true → (k .status || pendsStatus note) ≡ true
+pub status-noted : (note : Note) (k : Talk) → noted note k .status ≡ true → (k .status || pendsStatus note) ≡ true
 unfolding noted
 status-noted Note.Nothing k e = rw e
 status-noted Note.WeChose k e = rw e
@@ -128,7 +128,7 @@ awaiting-noted Note.TerminationPends k = refl
 awaiting-noted Note.StatusPends k = refl
 awaiting-noted Note.TerminationDropped k = refl
 
-chooser-noted : (note : Note) (k : Talk) → noted note k .chooser ≡ chooserAfter note (k .chooser)
+pub chooser-noted : (note : Note) (k : Talk) → noted note k .chooser ≡ chooserAfter note (k .chooser)
 unfolding noted
 chooser-noted Note.Nothing k = refl
 chooser-noted Note.WeChose k = refl
@@ -251,10 +251,10 @@ module _ (fitness : Fitness) (good : SoundFitness fitness) (x : Context) (fit : 
   pub requesting-there : x .talk .termination ≡ true → among (x .state) (fitness .requesting) ≡ true
   requesting-there e = and-left (among (x .state) (fitness .requesting)) _ (if-so (x .talk .termination) _ first-part e)
 
-  asked-there : x .talk .status ≡ true → among (x .state) (fitness .asked) ≡ true
+  pub asked-there : x .talk .status ≡ true → among (x .state) (fitness .asked) ≡ true
   asked-there e = and-left (among (x .state) (fitness .asked)) _ (if-so (x .talk .status) _ second-part e)
 
-  awaiting-there : x .talk .awaiting ≡ true → (among (x .state) (fitness .awaiting) && not (x .parameters .orig)) ≡ true
+  pub awaiting-there : x .talk .awaiting ≡ true → (among (x .state) (fitness .awaiting) && not (x .parameters .orig)) ≡ true
   awaiting-there e = if-so (x .talk .awaiting) _ third-part e
 
   -- ---- where nothing more is due: the same context, or one whose value has been adopted
@@ -283,6 +283,15 @@ module _ (fitness : Fitness) (good : SoundFitness fitness) (x : Context) (fit : 
       go true false pends e = refl
       go true true false e = refl
       go true true true e = never (and-right (among (x .state) (fitness .requesting)) _ e)
+
+  pub none-asked : sentIn x .status ≡ false
+  unfolding sentIn
+  none-asked = go (x .parameters .comm) (x .talk .status) second-part
+    where
+      go : (comm pends : Bool) → (not pends || (among (x .state) (fitness .asked) && not comm)) ≡ true → (comm && pends) ≡ false
+      go false pends e = refl
+      go true false e = refl
+      go true true e = never (and-right (among (x .state) (fitness .asked)) _ e)
 
   pub fit-flushed : fitBy fitness (flushed x) ≡ true
   fit-flushed = go (same (x .state) U0) refl

@@ -5,4 +5,8 @@ pub mod Return
 pub mod Invitation
 pub mod Answers
 pub mod Timed
+pub mod Together
+pub mod Waits
+pub mod Leads
+pub mod Runs
 pub mod Coincide

@@ -4,3 +4,4 @@ pub mod Talk
 pub mod Step
 pub mod Due
 pub mod Sets
+pub mod Waiting

@@ -4,6 +4,7 @@ ghost use mathlib.Core.Path.{_≡_};
 ghost use Rattle.call.specs.Events.{noReference, bare, carrying, heard, seenMessage, seenOf};
 ghost use Rattle.call.specs.Reasons.{reasonNumber};
 use codes::attributes::Parameters;
+use codes::event;
 use codes::message_type;
 use codes::state::State;
 use context::Context;
@@ -151,7 +152,7 @@ impl Seen {
         ensures { λ r. ⌜ r ≡ heard code value reference attributes ⌝ }
     {
         Seen {
-            number: 18,
+            number: event::RECEIVED,
             code,
             value,
             reference,
@@ -211,29 +212,33 @@ pub fn seen_event(event: Event) -> Seen
     ensures { λ r. ⌜ r ≡ seenOf event ⌝ }
 {
     match event {
-        Event::SetUp(value, reference) => Seen::carrying(1, value, reference),
-        Event::ImmediateSetUp(value, reference) => Seen::carrying(2, value, reference),
-        Event::Join => Seen::bare(3),
-        Event::Terminate => Seen::bare(4),
-        Event::Release => Seen::bare(5),
-        Event::Established => Seen::bare(6),
-        Event::EstablishmentFailed => Seen::bare(7),
-        Event::LinkFailure => Seen::bare(8),
-        Event::AbortDetected => Seen::bare(9),
-        Event::Notified(value, reference) => Seen::carrying(10, value, reference),
-        Event::ReceiveModeEntered => Seen::bare(11),
-        Event::NoChannel => Seen::bare(12),
-        Event::ChannelAvailable => Seen::bare(13),
-        Event::MmEstExpired => Seen::bare(14),
-        Event::TermExpired => Seen::bare(15),
-        Event::ConnReqExpired => Seen::bare(16),
-        Event::NoChannelExpired => Seen::bare(17),
+        Event::SetUp(value, reference) => Seen::carrying(event::SET_UP, value, reference),
+        Event::ImmediateSetUp(value, reference) => Seen::carrying(
+            event::IMMEDIATE_SET_UP,
+            value,
+            reference,
+        ),
+        Event::Join => Seen::bare(event::JOIN),
+        Event::Terminate => Seen::bare(event::TERMINATE),
+        Event::Release => Seen::bare(event::RELEASE),
+        Event::Established => Seen::bare(event::MM_ESTABLISHED),
+        Event::EstablishmentFailed => Seen::bare(event::MM_FAILED),
+        Event::LinkFailure => Seen::bare(event::RADIO_LINK_FAILURE),
+        Event::AbortDetected => Seen::bare(event::ABORT_OR_RELEASE),
+        Event::Notified(value, reference) => Seen::carrying(event::NOTIFIED, value, reference),
+        Event::ReceiveModeEntered => Seen::bare(event::GROUP_RECEIVE),
+        Event::NoChannel => Seen::bare(event::NO_CHANNEL),
+        Event::ChannelAvailable => Seen::bare(event::CHANNEL_AVAILABLE),
+        Event::MmEstExpired => Seen::bare(event::MM_EST_EXPIRED),
+        Event::TermExpired => Seen::bare(event::TERM_EXPIRED),
+        Event::ConnReqExpired => Seen::bare(event::CONN_REQ_EXPIRED),
+        Event::NoChannelExpired => Seen::bare(event::NO_CHANNEL_EXPIRED),
         Event::Received(_, value, message) => seen_message(value, message),
-        Event::PresExpired => Seen::bare(19),
-        Event::ReceiveModeRequested => Seen::bare(32),
-        Event::TalkRequested => Seen::bare(33),
-        Event::TransmitModeEntered => Seen::bare(34),
-        Event::DedicatedModeEntered => Seen::bare(35),
-        Event::TerminationDeleted => Seen::bare(36),
+        Event::PresExpired => Seen::bare(event::PRES_EXPIRED),
+        Event::ReceiveModeRequested => Seen::bare(event::RECEIVE_MODE),
+        Event::TalkRequested => Seen::bare(event::TALK),
+        Event::TransmitModeEntered => Seen::bare(event::GROUP_TRANSMIT),
+        Event::DedicatedModeEntered => Seen::bare(event::DEDICATED),
+        Event::TerminationDeleted => Seen::bare(event::DELETE_REQUEST),
     }
 }

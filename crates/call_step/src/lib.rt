@@ -13,7 +13,10 @@ use call::Seen;
 use call::Sending;
 use call::Sent;
 use call::Settled;
+use codes::action;
+use codes::answer;
 use codes::attributes::Parameters;
+use codes::cause;
 use codes::state::State;
 use context::Context;
 use context::Remembered;
@@ -152,7 +155,7 @@ fn took(context: Context, actions: u8, sends: Sending) -> Settled
         let sent = unsent(context);
         return Settled {
             context,
-            answer: 0,
+            answer: answer::TAKEN,
             reason: 0,
             actions,
             sends,
@@ -162,7 +165,7 @@ fn took(context: Context, actions: u8, sends: Sending) -> Settled
     let sent = talk::sent_in(context);
     let after = talk::flushed(context);
     Settled {
-        answer: 0,
+        answer: answer::TAKEN,
         reason: 0,
         context: after,
         actions,
@@ -191,10 +194,10 @@ fn refuse(context: Context) -> Settled
 {
     let sent = unsent(context);
     Settled {
-        answer: 3,
+        answer: answer::NO_STEP,
         reason: 0,
         context,
-        actions: 0,
+        actions: action::NONE,
         sends: SILENT,
         sent,
     }
@@ -207,10 +210,10 @@ fn ignore(context: Context, reason: Reason) -> Settled
     let number = call::reason_number(reason);
     let sent = unsent(context);
     Settled {
-        answer: 1,
+        answer: answer::IGNORED,
         reason: number,
         context,
-        actions: 0,
+        actions: action::NONE,
         sends: SILENT,
         sent,
     }
@@ -224,10 +227,10 @@ fn report(context: Context, cause: u8) -> Settled
     if parameters.comm {
         let sent = unsent(context);
         return Settled {
-            answer: 2,
+            answer: answer::REPORTED,
             reason: 0,
             context,
-            actions: 0,
+            actions: action::NONE,
             sends: Sending::ErrorStatus(cause),
             sent,
         };
@@ -241,7 +244,11 @@ fn tell_status(context: Context) -> Settled
 {
     let told = context.parameters;
     if told.comm {
-        return took(context, 0, Sending::Status(30));
+        return took(
+            context,
+            action::NONE,
+            Sending::Status(cause::RESPONSE_TO_GET_STATUS),
+        );
     }
     ignore(context, Reason::CommFalse)
 }
@@ -274,9 +281,9 @@ fn set_parameters(table: Table, attributes: u8, context: Context, taking: Contex
     let parameters = codes::attributes::parameters_of(attributes);
     if fitness::is_consistent(table, state, parameters) {
         let set = with_parameters(parameters, taking);
-        return took(set, 0, SILENT);
+        return took(set, action::NONE, SILENT);
     }
-    report(context, 98)
+    report(context, cause::TYPE_NOT_COMPATIBLE)
 }
 
 // A row is taken.

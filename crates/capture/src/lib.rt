@@ -7,6 +7,7 @@ ghost use lib.ListN.{length};
 ghost use Rattle.text.specs.Output.{behind, putLeaves};
 ghost use Rattle.capture.specs.Capture.{captureHeader, packetHeader, tagsOf, packetOf};
 use octets::copy_to;
+use octets::little;
 use text::output::Output;
 use text::output::put;
 
@@ -26,25 +27,26 @@ pub fn put_header(buffer: &mut [u8], output: Output) -> Output
 fn packet_header(time: u64, count: u64) -> [u8; 16]
     ensures { λ r. ⌜ r ≡ packetHeader time count ⌝ }
 {
-    let seconds = time / 1000;
-    let micros = time % 1000 * 1000;
+    let seconds = little(time / 1000);
+    let micros = little(time % 1000 * 1000);
+    let octets = little(count);
     [
-        (seconds % 256) as u8,
-        (seconds / 256 % 256) as u8,
-        (seconds / 65536 % 256) as u8,
-        (seconds / 16777216 % 256) as u8,
-        (micros % 256) as u8,
-        (micros / 256 % 256) as u8,
-        (micros / 65536 % 256) as u8,
-        (micros / 16777216 % 256) as u8,
-        (count % 256) as u8,
-        (count / 256 % 256) as u8,
-        (count / 65536 % 256) as u8,
-        (count / 16777216 % 256) as u8,
-        (count % 256) as u8,
-        (count / 256 % 256) as u8,
-        (count / 65536 % 256) as u8,
-        (count / 16777216 % 256) as u8,
+        seconds[0],
+        seconds[1],
+        seconds[2],
+        seconds[3],
+        micros[0],
+        micros[1],
+        micros[2],
+        micros[3],
+        octets[0],
+        octets[1],
+        octets[2],
+        octets[3],
+        octets[0],
+        octets[1],
+        octets[2],
+        octets[3],
     ]
 }
 

@@ -1,6 +1,7 @@
 // Causes, 9.4.3, table 9.4: what the cause part of a cause element says.
 ghost use mathlib.Core.Path.{_≡_};
 ghost use Rattle.causes.specs.Causes.{causeOf, causeSaid, retryOrUnspecific};
+use codes::cause;
 
 pub enum Cause {
     IllegalMs,
@@ -36,31 +37,31 @@ pub fn cause_of(number: u8) -> Cause
     ensures { λ r. ⌜ r ≡ causeOf number ⌝ }
 {
     match number {
-        3 => Cause::IllegalMs,
-        5 => Cause::ImeiNotAccepted,
-        6 => Cause::IllegalMe,
-        8 => Cause::ServiceNotAuthorized,
-        9 => Cause::ApplicationNotSupported,
-        10 => Cause::RrConnectionAborted,
-        16 => Cause::NormalCallClearing,
-        17 => Cause::NetworkFailure,
-        20 => Cause::Busy,
-        22 => Cause::Congestion,
-        23 => Cause::UserNotOriginator,
-        24 => Cause::NetworkWantsToMaintainCall,
-        30 => Cause::ResponseToGetStatus,
-        32 => Cause::ServiceOptionNotSupported,
-        33 => Cause::ServiceOptionNotSubscribed,
-        34 => Cause::ServiceOptionOutOfOrder,
-        38 => Cause::CallCannotBeIdentified,
-        81 => Cause::InvalidTransactionIdentifier,
-        95 => Cause::SemanticallyIncorrect,
-        96 => Cause::InvalidMandatoryInformation,
-        97 => Cause::TypeNonExistent,
-        98 => Cause::TypeNotCompatible,
-        99 => Cause::ElementNonExistent,
-        100 => Cause::TypeNotCompatible,
-        112 => Cause::ProtocolError,
+        cause::ILLEGAL_MS => Cause::IllegalMs,
+        cause::IMEI_NOT_ACCEPTED => Cause::ImeiNotAccepted,
+        cause::ILLEGAL_ME => Cause::IllegalMe,
+        cause::SERVICE_NOT_AUTHORIZED => Cause::ServiceNotAuthorized,
+        cause::APPLICATION_NOT_SUPPORTED => Cause::ApplicationNotSupported,
+        cause::RR_CONNECTION_ABORTED => Cause::RrConnectionAborted,
+        cause::NORMAL_CALL_CLEARING => Cause::NormalCallClearing,
+        cause::NETWORK_FAILURE => Cause::NetworkFailure,
+        cause::BUSY => Cause::Busy,
+        cause::CONGESTION => Cause::Congestion,
+        cause::USER_NOT_ORIGINATOR => Cause::UserNotOriginator,
+        cause::NETWORK_WANTS_TO_MAINTAIN_CALL => Cause::NetworkWantsToMaintainCall,
+        cause::RESPONSE_TO_GET_STATUS => Cause::ResponseToGetStatus,
+        cause::SERVICE_OPTION_NOT_SUPPORTED => Cause::ServiceOptionNotSupported,
+        cause::SERVICE_OPTION_NOT_SUBSCRIBED => Cause::ServiceOptionNotSubscribed,
+        cause::SERVICE_OPTION_OUT_OF_ORDER => Cause::ServiceOptionOutOfOrder,
+        cause::CALL_CANNOT_BE_IDENTIFIED => Cause::CallCannotBeIdentified,
+        cause::INVALID_TRANSACTION_IDENTIFIER => Cause::InvalidTransactionIdentifier,
+        cause::SEMANTICALLY_INCORRECT => Cause::SemanticallyIncorrect,
+        cause::INVALID_MANDATORY_INFORMATION => Cause::InvalidMandatoryInformation,
+        cause::TYPE_NON_EXISTENT => Cause::TypeNonExistent,
+        cause::TYPE_NOT_COMPATIBLE => Cause::TypeNotCompatible,
+        cause::ELEMENT_NON_EXISTENT => Cause::ElementNonExistent,
+        cause::TYPE_NOT_COMPATIBLE_AGAIN => Cause::TypeNotCompatible,
+        cause::PROTOCOL_ERROR => Cause::ProtocolError,
         _ => retry_or_unspecific(number),
     }
 }
@@ -69,10 +70,10 @@ pub fn cause_of(number: u8) -> Cause
 fn retry_or_unspecific(number: u8) -> Cause
     ensures { λ r. ⌜ r ≡ retryOrUnspecific number ⌝ }
 {
-    if number < 48 {
+    if number < cause::RETRY_FIRST {
         return Cause::Unspecific;
     }
-    if 63 < number {
+    if cause::RETRY_LAST < number {
         return Cause::Unspecific;
     }
     Cause::RetryUponNewCell

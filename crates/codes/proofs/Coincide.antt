@@ -1,6 +1,7 @@
 -- Any two outcomes that a public contract of this crate allows coincide.
 use Prim.Native.Nat.{ℕ}
 use mathlib.Core.Path.{_≡_}
+use mathlib.Core.Bool.{Bool}
 use Rattle.octets.proofs.Coincide.{coincide}
 use Rattle.codes.specs.declared.protocol.Protocol.{Protocol}
 use Rattle.codes.specs.declared.state.State.{State}
@@ -8,7 +9,7 @@ use Rattle.codes.specs.declared.state.CallState.{CallState}
 use Rattle.codes.specs.declared.attributes.Parameters.{Parameters}
 use Rattle.codes.specs.Protocol.{discriminator}
 use Rattle.codes.specs.CallStates.{callStateOf, callStateCode}
-use Rattle.codes.specs.Attributes.{parametersOf, attributesOf}
+use Rattle.codes.specs.Attributes.{parametersOf, attributesOf, parametersNumber}
 
 pub discriminator-coincides : (protocol : Protocol) (a b : ℕ) → a ≡ discriminator protocol → b ≡ discriminator protocol → a ≡ b
 discriminator-coincides protocol a b = coincide (discriminator protocol) a b
@@ -24,3 +25,8 @@ parameters-of-coincides half a b = coincide (parametersOf half) a b
 
 pub attributes-of-coincides : (parameters : Parameters) (a b : ℕ) → a ≡ attributesOf parameters → b ≡ attributesOf parameters → a ≡ b
 attributes-of-coincides parameters a b = coincide (attributesOf parameters) a b
+
+pub parameters-number-coincides : (orig comm datt uatt : Bool) (a b : ℕ) → a ≡ parametersNumber (record { orig = orig; comm = comm; datt = datt; uatt = uatt })
+    → b ≡ parametersNumber (record { orig = orig; comm = comm; datt = datt; uatt = uatt })
+    → a ≡ b
+parameters-number-coincides orig comm datt uatt a b = coincide (parametersNumber (record { orig = orig; comm = comm; datt = datt; uatt = uatt })) a b

@@ -19,3 +19,7 @@ weighs set weight = cond set weight 0
 -- The table read the other way.
 unfoldable pub attributesOf : Parameters → ℕ
 attributesOf p = weighs (p .datt) 8 + weighs (p .uatt) 4 + weighs (p .comm) 2 + weighs (p .orig) 1
+
+-- Document 01, "The log": "parameters after as 8 ORIG + 4 COMM + 2 D-ATT + U-ATT".
+unfoldable pub parametersNumber : Parameters → ℕ
+parametersNumber p = weighs (p .orig) 8 + weighs (p .comm) 4 + weighs (p .datt) 2 + weighs (p .uatt) 1

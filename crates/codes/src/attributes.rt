@@ -1,6 +1,7 @@
 // State attributes, 9.4.6: the four parameters of a call and the half octet that carries them.
 ghost use mathlib.Core.Path.{_≡_};
-ghost use Rattle.codes.specs.Attributes.{parametersOf, attributesOf, weighs};
+ghost use Prim.Native.Nat.{_+_};
+ghost use Rattle.codes.specs.Attributes.{parametersOf, attributesOf, parametersNumber, weighs};
 
 // The parameters, in the order of document 01: ORIG, COMM, D-ATT, U-ATT.
 pub struct Parameters {
@@ -26,11 +27,31 @@ pub fn parameters_of(half: u8) -> Parameters
 pub fn attributes_of(parameters: Parameters) -> u8
     ensures { λ r. ⌜ r ≡ attributesOf parameters ⌝ }
 {
-    let downlink = bit(parameters.datt, 8);
-    let uplink = bit(parameters.uatt, 4);
-    let communication = bit(parameters.comm, 2);
-    let originator = bit(parameters.orig, 1);
-    downlink + uplink + communication + originator
+    four_bits(
+        parameters.datt,
+        parameters.uatt,
+        parameters.comm,
+        parameters.orig,
+    )
+}
+
+// The parameters as a log and a host have them: 8 ORIG + 4 COMM + 2 D-ATT + U-ATT. They come one by one, as a step has just left them: four at once would wait for the
+// last.
+pub fn parameters_number(orig: bool, comm: bool, datt: bool, uatt: bool) -> u8
+    ensures { λ r. ⌜ r ≡ parametersNumber (record { orig = orig; comm = comm; datt = datt; uatt = uatt }) ⌝ }
+{
+    four_bits(orig, comm, datt, uatt)
+}
+
+// Four bits as a number.
+fn four_bits(eight: bool, four: bool, two: bool, one: bool) -> u8
+    ensures { λ r. ⌜ r ≡ weighs eight 8 + weighs four 4 + weighs two 2 + weighs one 1 ⌝ }
+{
+    let first = bit(eight, 8);
+    let second = bit(four, 4);
+    let third = bit(two, 2);
+    let fourth = bit(one, 1);
+    first + second + third + fourth
 }
 
 // The weight of a bit that is set, and 0 of one that is not.

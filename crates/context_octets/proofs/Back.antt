@@ -11,6 +11,7 @@ use Rattle.octets.proofs.Choice.{at-cond}
 use Rattle.codes.specs.declared.state.State.{State}
 use Rattle.codes.specs.declared.state.State.the-variants.{U0, U0p, U1, U2, U3, U4, U5, U6, U2sl, U2wr, U2r, U2ws, U2sr, U2nc}
 use Rattle.codes.specs.declared.attributes.Parameters.{Parameters}
+use Rattle.codes.specs.Attributes.{parametersNumber}
 use Rattle.timer.specs.declared.Timers.{Timers}
 use Rattle.context.specs.declared.Context.{Context}
 use Rattle.context.specs.declared.Chooser.{Chooser}
@@ -28,7 +29,7 @@ use Rattle.context_octets.specs.declared.Reading.{Reading}
 use Rattle.context_octets.specs.declared.Reading.the-variants.{Is, NoContext}
 use Rattle.context_octets.specs.Octets.{bit, chooserAt, contextOf, fourNumber, isKept, isRemembered, isTalk, rememberedAt, octetsOf, onState, parametersAt, stateAt, talkAt, talkNumber, timersAt, timersNumber, withState}
 use Rattle.octets.proofs.Listed.{all-listed, listed}
-use Rattle.context_octets.proofs.Bits.{bit-most, chooser-most}
+use Rattle.context_octets.proofs.Bits.{bit-most, chooser-most, parameters-four}
 
 -- ---- what is written is read back
 
@@ -139,7 +140,7 @@ read-written x =
     let c = over-sixteen (t .pres) (fourNumber (t .mmest) (t .term) (t .connreq) (t .nochannel)) (t .mmest) (t .term) (t .connreq) (t .nochannel) (bits (t .mmest) (t .term) (t .connreq) (t .nochannel)) in
     let m = minded (x .remembered) in
     let k = talks (x .talk) in
-    rw (b .small, c .small, m .one-of, k .one-of, state-back (x .state), m .back, k .back, b .eight, b .four, b .two, b .one, c .sixteen, c .eight, c .four, c .two, c .one)
+    rw (parameters-four p, b .small, c .small, m .one-of, k .one-of, state-back (x .state), m .back, k .back, b .eight, b .four, b .two, b .one, c .sixteen, c .eight, c .four, c .two, c .one)
 
 -- ---- what is read is written back
 
@@ -158,8 +159,9 @@ four-back n =
     let d : n ≡ 2 * (n / 2) + n % 2 = omega arith in
     rw (bit-of (n / 8 % 2) (omega arith), bit-of (n / 4 % 2) (omega arith), bit-of (n / 2 % 2) (omega arith), bit-of (n % 2) (omega arith)) (omega arith)
 
-parameters-back : (n : ℕ) → n ≤ 15 → fourNumber (eqb (n / 8 % 2) 1) (eqb (n / 4 % 2) 1) (eqb (n / 2 % 2) 1) (eqb (n % 2) 1) ≡ n
-parameters-back n h = four-back n ∙ small
+parameters-back : (n : ℕ) → n ≤ 15 → parametersNumber (parametersAt n) ≡ n
+unfolding parametersAt
+parameters-back n h = parameters-four _ ∙ four-back n ∙ small
   where
     small : n % 16 ≡ n
     small = omega arith
@@ -268,7 +270,7 @@ Written s (Is x) = octetsOf x ≡ s
 Written s NoContext = Unit
 
 state-written : (s : List ℕ) → length s ≡ 16 → Kept s → (t : Numbered) → From (getD s 0 0) t → Written s (onState s t)
-unfolding octetsOf withState parametersAt
+unfolding octetsOf withState
 state-written s l k (IsState state) f =
     rw (f, parameters-back (getD s 1 0) (k .parameters), timers-back (getD s 2 0) (k .timers), minded-from (getD s 8 0) (k .remembered), talks-from (getD s 9 0) (k .talk), ← k .zeros) (sym (all-listed 16 s l))
 state-written s l k NoState f = tt

@@ -5,6 +5,8 @@ use mathlib.Core.Bool.{Bool, true, false}
 use native.Mathlib.Omega.{arith}
 use native.Mathlib.Nat.{zero-add}
 use mir.Val.{boolByte}
+use Rattle.codes.specs.declared.attributes.Parameters.{Parameters}
+use Rattle.codes.specs.Attributes.{parametersNumber, weighs}
 use Rattle.timer.specs.declared.Timers.{Timers}
 use Rattle.context.specs.declared.Chooser.{Chooser}
 use Rattle.context.specs.declared.Chooser.the-variants.{Neither, Us, Cell}
@@ -46,6 +48,16 @@ bit-most false = omega arith
 pub four-most : (a b c d : Bool) → fourNumber a b c d ≤ 15
 unfolding fourNumber
 four-most a b c d = omega (arith, bit-most a, bit-most b, bit-most c, bit-most d)
+
+-- The parameters' number is that of their four bits.
+weight : (set : Bool) (n : ℕ) → weighs set n ≡ n * bit set
+unfolding weighs
+weight true n = omega arith
+weight false n = omega arith
+
+pub parameters-four : (p : Parameters) → parametersNumber p ≡ fourNumber (p .orig) (p .comm) (p .datt) (p .uatt)
+unfolding fourNumber parametersNumber
+parameters-four p = rw (weight (p .orig) 8, weight (p .comm) 4, weight (p .datt) 2, weight (p .uatt) 1) (omega arith)
 
 -- The timers' number, with T_pres and without.
 module _ (t : Timers) (four : ℕ) (is : four ≡ fourNumber (t .mmest) (t .term) (t .connreq) (t .nochannel)) where

@@ -9,6 +9,7 @@ use Rattle.octets.specs.Rows.{rows}
 use Rattle.codes.specs.declared.state.State.{State}
 use Rattle.codes.specs.declared.state.State.the-variants.{U0, U0p, U1, U2, U3, U4, U5, U6, U2sl, U2wr, U2r, U2ws, U2sr, U2nc}
 use Rattle.codes.specs.declared.attributes.Parameters.{Parameters}
+use Rattle.codes.specs.Attributes.{parametersNumber}
 use Rattle.octets.specs.declared.Reference.{Reference}
 use Rattle.timer.specs.declared.Timers.{Timers}
 use Rattle.context.specs.declared.Context.{Context}
@@ -135,10 +136,9 @@ contextOf s = cond (isKept s) (onState s (stateAt (getD s 0 0))) NoContext
 -- The sixteen octets of a context.
 unfoldable pub octetsOf : Context → List ℕ
 octetsOf x =
-    let p : Parameters = x .parameters in
     let r : Reference = x .reference in
     numberOf (x .state) ∷
-    fourNumber (p .orig) (p .comm) (p .datt) (p .uatt) ∷
+    parametersNumber (x .parameters) ∷
     timersNumber (x .timers) ∷
     x .value ∷
     r .first ∷ r .second ∷ r .third ∷ r .fourth ∷

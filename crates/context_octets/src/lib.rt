@@ -2,6 +2,7 @@
 ghost use mathlib.Core.Path.{_≡_};
 ghost use Rattle.context_octets.specs.Octets.{chooserAt, contextOf, fourNumber, isKept, isRemembered, isTalk, octetsOf, parametersAt, rememberedAt, stateAt, talkAt, talkNumber, timersAt, timersNumber, withState};
 use codes::attributes::Parameters;
+use codes::attributes::parameters_number;
 use codes::state::State;
 use context::Chooser;
 use context::Context;
@@ -210,7 +211,7 @@ pub fn write(context: Context, octets: &mut [u8; 16])
     let run = context.timers;
     let call = context.reference;
     let number = context::state_number(state) as u8;
-    let parameters = four_number(set.orig, set.comm, set.datt, set.uatt);
+    let parameters = parameters_number(set.orig, set.comm, set.datt, set.uatt);
     let timers = timers_number(run);
     let remembered = context.remembered;
     let noted = context::remembered_number(remembered);

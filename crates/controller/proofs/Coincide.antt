@@ -3,7 +3,7 @@ use Prim.Native.Nat.{ℕ}
 use mathlib.Core.Path.{_≡_}
 use mathlib.Core.List.{List}
 use Rattle.octets.proofs.Coincide.{coincide}
-use Rattle.log_number.specs.Number.{numberAt}
+use Rattle.septets.specs.Number.{numberAt}
 use Rattle.controller.specs.declared.numbering.NumberRead.{NumberRead}
 use Rattle.controller.specs.Numbering.{numberShown}
 

@@ -1,3 +1,3 @@
 pub mod Coincide
 pub mod Hosted
-pub mod Laws
+pub mod Refusing

@@ -1,8 +1,9 @@
 // A log's number, for C.
 ghost use mathlib.Core.Path.{_≡_};
-ghost use Rattle.log_number.specs.Number.{numberAt};
+ghost use Rattle.septets.specs.Number.{numberAt};
 ghost use Rattle.controller.specs.Numbering.{numberShown};
-use log_number::Number;
+use codes::wide::answer;
+use septets::Number;
 
 #[repr(C)]
 pub struct NumberRead {
@@ -16,14 +17,14 @@ pub struct NumberRead {
 pub extern "C" fn heidezirkel_read_number(octets: &[u8], at: usize) -> NumberRead
     ensures { λ r. ⌜ r ≡ numberShown (numberAt (now (octets .entry)) at) ⌝ }
 {
-    match log_number::read_number(octets, at) {
+    match septets::read_number(octets, at) {
         Number::Value(value, next) => NumberRead {
-            answer: 0,
+            answer: answer::TAKEN,
             value,
             next,
         },
         Number::Unreadable => NumberRead {
-            answer: 8,
+            answer: answer::UNREADABLE_LOG,
             value: 0,
             next: 0,
         },

@@ -3,6 +3,8 @@ ghost use mathlib.Core.Path.{_≡_};
 ghost use Rattle.codes.specs.declared.state.State.the-variants.{U0, U0p, U1, U2, U3, U4, U5, U6};
 ghost use Rattle.codes.specs.declared.protocol.Protocol.the-variants.{Broadcast};
 ghost use Rattle.transitions.specs.Table.{rowsOf, stepTable, happenedIn, decidedOf};
+use codes::action;
+use codes::event;
 use codes::protocol::Protocol;
 use codes::state::State;
 use context::Context;
@@ -18,7 +20,7 @@ use version::Table;
 // 1, set-up request.
 const SET_UP: Decision = Decision::Take(Taken {
     next: State::U0p,
-    actions: 2,
+    actions: action::REQUEST_MM,
     sends: Send::Nothing,
     stops: Timer::NoTimer,
     sets: Timer::MmEst,
@@ -30,7 +32,7 @@ const SET_UP: Decision = Decision::Take(Taken {
 // 2, immediate set-up request.
 const IMMEDIATE_SET_UP: Decision = Decision::Take(Taken {
     next: State::U1,
-    actions: 0,
+    actions: action::NONE,
     sends: Send::ImmediateSetup,
     stops: Timer::NoTimer,
     sets: Timer::MmEst,
@@ -42,7 +44,7 @@ const IMMEDIATE_SET_UP: Decision = Decision::Take(Taken {
 // 6, MM connection established.
 const ESTABLISHED: Decision = Decision::Take(Taken {
     next: State::U1,
-    actions: 0,
+    actions: action::NONE,
     sends: Send::Setup,
     stops: Timer::MmEst,
     sets: Timer::NoTimer,
@@ -54,7 +56,7 @@ const ESTABLISHED: Decision = Decision::Take(Taken {
 // 11, group receive mode entered.
 const RECEIVE_MODE_ENTERED: Decision = Decision::Take(Taken {
     next: State::U6,
-    actions: 1,
+    actions: action::INFORM,
     sends: Send::Nothing,
     stops: Timer::ConnReq,
     sets: Timer::NoTimer,
@@ -66,7 +68,7 @@ const RECEIVE_MODE_ENTERED: Decision = Decision::Take(Taken {
 // 12, no channel: T_no channel is set unless running.
 const NO_CHANNEL: Decision = Decision::Take(Taken {
     next: State::U6,
-    actions: 1,
+    actions: action::INFORM,
     sends: Send::Nothing,
     stops: Timer::NoTimer,
     sets: Timer::NoChannel,
@@ -78,7 +80,7 @@ const NO_CHANNEL: Decision = Decision::Take(Taken {
 // The same while it runs.
 const STILL_NO_CHANNEL: Decision = Decision::Take(Taken {
     next: State::U6,
-    actions: 1,
+    actions: action::INFORM,
     sends: Send::Nothing,
     stops: Timer::NoTimer,
     sets: Timer::NoTimer,
@@ -90,7 +92,7 @@ const STILL_NO_CHANNEL: Decision = Decision::Take(Taken {
 // 13, channel available.
 const CHANNEL_AVAILABLE: Decision = Decision::Take(Taken {
     next: State::U6,
-    actions: 1,
+    actions: action::INFORM,
     sends: Send::Nothing,
     stops: Timer::NoChannel,
     sets: Timer::NoTimer,
@@ -114,9 +116,9 @@ fn in_u0(table: Table, context: Context, number: u8) -> Decision
     ensures { λ r. ⌜ r ≡ happenedIn (rowsOf Broadcast table) U0 context number ⌝ }
 {
     match number {
-        1 => SET_UP,
-        2 => IMMEDIATE_SET_UP,
-        10 => row_parts::notified(table),
+        event::SET_UP => SET_UP,
+        event::IMMEDIATE_SET_UP => IMMEDIATE_SET_UP,
+        event::NOTIFIED => row_parts::notified(table),
         0..=0 | 3..=9 | 11..=255 => Decision::NoStep,
     }
 }
@@ -125,12 +127,12 @@ fn in_u0p(table: Table, context: Context, number: u8) -> Decision
     ensures { λ r. ⌜ r ≡ happenedIn (rowsOf Broadcast table) U0p context number ⌝ }
 {
     match number {
-        6 => ESTABLISHED,
-        7 => row_parts::ENDS,
-        14 => row_parts::ENDS_ABORTING,
-        8 => row_parts::ENDS_ABORTING,
-        5 => row_parts::ENDS_RELEASING,
-        9 => row_parts::ENDS_INFORMING_ABORTING,
+        event::MM_ESTABLISHED => ESTABLISHED,
+        event::MM_FAILED => row_parts::ENDS,
+        event::MM_EST_EXPIRED => row_parts::ENDS_ABORTING,
+        event::RADIO_LINK_FAILURE => row_parts::ENDS_ABORTING,
+        event::RELEASE => row_parts::ENDS_RELEASING,
+        event::ABORT_OR_RELEASE => row_parts::ENDS_INFORMING_ABORTING,
         0..=4 | 10..=13 | 15..=255 => Decision::NoStep,
     }
 }
@@ -141,12 +143,12 @@ fn in_u1(table: Table, context: Context, number: u8) -> Decision
     let parameters = context.parameters;
     let timers = context.timers;
     match number {
-        4 => row_parts::terminated(table, parameters.orig),
-        7 => row_parts::where_true(timers.mmest, row_parts::ENDS),
-        14 => row_parts::where_true(timers.mmest, row_parts::ENDS_ABORTING),
-        8 => row_parts::ENDS_ABORTING,
-        5 => row_parts::ENDS_RELEASING,
-        9 => row_parts::ENDS_INFORMING_ABORTING,
+        event::TERMINATE => row_parts::terminated(table, parameters.orig),
+        event::MM_FAILED => row_parts::where_true(timers.mmest, row_parts::ENDS),
+        event::MM_EST_EXPIRED => row_parts::where_true(timers.mmest, row_parts::ENDS_ABORTING),
+        event::RADIO_LINK_FAILURE => row_parts::ENDS_ABORTING,
+        event::RELEASE => row_parts::ENDS_RELEASING,
+        event::ABORT_OR_RELEASE => row_parts::ENDS_INFORMING_ABORTING,
         0..=3 | 6..=6 | 10..=13 | 15..=255 => Decision::NoStep,
     }
 }
@@ -156,10 +158,10 @@ fn in_u2(table: Table, context: Context, number: u8) -> Decision
 {
     let parameters = context.parameters;
     match number {
-        4 => row_parts::terminated(table, parameters.orig),
-        5 => row_parts::ENDS_RELEASING,
-        9 => row_parts::ENDS_INFORMING_ABORTING,
-        8 => row_parts::ENDS_INFORMING_ABORTING,
+        event::TERMINATE => row_parts::terminated(table, parameters.orig),
+        event::RELEASE => row_parts::ENDS_RELEASING,
+        event::ABORT_OR_RELEASE => row_parts::ENDS_INFORMING_ABORTING,
+        event::RADIO_LINK_FAILURE => row_parts::ENDS_INFORMING_ABORTING,
         0..=3 | 6..=7 | 10..=255 => Decision::NoStep,
     }
 }
@@ -168,11 +170,11 @@ fn in_u3(table: Table, context: Context, number: u8) -> Decision
     ensures { λ r. ⌜ r ≡ happenedIn (rowsOf Broadcast table) U3 context number ⌝ }
 {
     match number {
-        3 => row_parts::joined(table),
-        19 => row_parts::forgotten(table, context),
-        5 => row_parts::ENDS_RELEASING,
-        9 => row_parts::ENDS_INFORMING_ABORTING,
-        8 => row_parts::ENDS_INFORMING_ABORTING,
+        event::JOIN => row_parts::joined(table),
+        event::PRES_EXPIRED => row_parts::forgotten(table, context),
+        event::RELEASE => row_parts::ENDS_RELEASING,
+        event::ABORT_OR_RELEASE => row_parts::ENDS_INFORMING_ABORTING,
+        event::RADIO_LINK_FAILURE => row_parts::ENDS_INFORMING_ABORTING,
         0..=2 | 4..=4 | 6..=7 | 10..=18 | 20..=255 => Decision::NoStep,
     }
 }
@@ -181,11 +183,11 @@ fn in_u4(table: Table, context: Context, number: u8) -> Decision
     ensures { λ r. ⌜ r ≡ happenedIn (rowsOf Broadcast table) U4 context number ⌝ }
 {
     match number {
-        11 => RECEIVE_MODE_ENTERED,
-        16 => row_parts::ENDS_INFORMING_ABORTING,
-        5 => row_parts::ENDS_RELEASING,
-        9 => row_parts::ENDS_INFORMING_ABORTING,
-        8 => row_parts::ENDS_INFORMING_ABORTING,
+        event::GROUP_RECEIVE => RECEIVE_MODE_ENTERED,
+        event::CONN_REQ_EXPIRED => row_parts::ENDS_INFORMING_ABORTING,
+        event::RELEASE => row_parts::ENDS_RELEASING,
+        event::ABORT_OR_RELEASE => row_parts::ENDS_INFORMING_ABORTING,
+        event::RADIO_LINK_FAILURE => row_parts::ENDS_INFORMING_ABORTING,
         0..=4 | 6..=7 | 10..=10 | 12..=15 | 17..=255 => Decision::NoStep,
     }
 }
@@ -195,10 +197,13 @@ fn in_u5(table: Table, context: Context, number: u8) -> Decision
 {
     let timers = context.timers;
     match number {
-        15 => row_parts::where_true(timers.term, row_parts::ENDS_INFORMING_ABORTING),
-        5 => row_parts::ENDS_RELEASING,
-        9 => row_parts::ENDS_INFORMING_ABORTING,
-        8 => row_parts::ENDS_INFORMING_ABORTING,
+        event::TERM_EXPIRED => row_parts::where_true(
+            timers.term,
+            row_parts::ENDS_INFORMING_ABORTING,
+        ),
+        event::RELEASE => row_parts::ENDS_RELEASING,
+        event::ABORT_OR_RELEASE => row_parts::ENDS_INFORMING_ABORTING,
+        event::RADIO_LINK_FAILURE => row_parts::ENDS_INFORMING_ABORTING,
         0..=4 | 6..=7 | 10..=14 | 16..=255 => Decision::NoStep,
     }
 }
@@ -208,12 +213,15 @@ fn in_u6(table: Table, context: Context, number: u8) -> Decision
 {
     let timers = context.timers;
     match number {
-        12 => no_channel_in_u6(table, context),
-        13 => CHANNEL_AVAILABLE,
-        17 => row_parts::where_true(timers.nochannel, row_parts::ENDS_INFORMING_ABORTING),
-        5 => row_parts::ENDS_RELEASING,
-        9 => row_parts::ENDS_INFORMING_ABORTING,
-        8 => row_parts::ENDS_INFORMING_ABORTING,
+        event::NO_CHANNEL => no_channel_in_u6(table, context),
+        event::CHANNEL_AVAILABLE => CHANNEL_AVAILABLE,
+        event::NO_CHANNEL_EXPIRED => row_parts::where_true(
+            timers.nochannel,
+            row_parts::ENDS_INFORMING_ABORTING,
+        ),
+        event::RELEASE => row_parts::ENDS_RELEASING,
+        event::ABORT_OR_RELEASE => row_parts::ENDS_INFORMING_ABORTING,
+        event::RADIO_LINK_FAILURE => row_parts::ENDS_INFORMING_ABORTING,
         0..=4 | 6..=7 | 10..=11 | 14..=16 | 18..=255 => Decision::NoStep,
     }
 }
@@ -255,7 +263,7 @@ fn occurred(table: Table, context: Context, number: u8) -> Decision
 pub fn decide(table: Table, context: Context, number: u8, code: u8) -> Decision
     ensures { λ r. ⌜ r ≡ decidedOf table context number code ⌝ }
 {
-    if number == 18 {
+    if number == event::RECEIVED {
         return message_rows::decide(table, context, code);
     }
     occurred(table, context, number)

@@ -9,6 +9,9 @@ ghost use Rattle.version.specs.declared.Table.the-variants as Table;
 ghost use Rattle.transitions.specs.declared.Decision.the-variants.{NoStep, Report};
 ghost use Rattle.transitions.specs.Table.{sentences, incompatible, rowsOf, heardIn, happenedIn, decidedBy};
 ghost use Rattle.group_rows.specs.Rows.{staying, returnedTo, changing, subStateRows, stayingTypes};
+use codes::action;
+use codes::cause;
+use codes::event;
 use codes::message_type;
 use codes::state::State;
 use context::Context;
@@ -29,7 +32,7 @@ use transitions::Taken;
 // 1, set-up request: we chose the value.
 const SET_UP: Decision = Decision::Take(Taken {
     next: State::U0p,
-    actions: 2,
+    actions: action::REQUEST_MM,
     sends: Send::Nothing,
     stops: Timer::NoTimer,
     sets: Timer::MmEst,
@@ -41,7 +44,7 @@ const SET_UP: Decision = Decision::Take(Taken {
 // 2, immediate set-up request.
 const IMMEDIATE_SET_UP: Decision = Decision::Take(Taken {
     next: State::U1,
-    actions: 0,
+    actions: action::NONE,
     sends: Send::ImmediateSetup,
     stops: Timer::NoTimer,
     sets: Timer::MmEst,
@@ -53,7 +56,7 @@ const IMMEDIATE_SET_UP: Decision = Decision::Take(Taken {
 // 10, notified: the cell chose the value.
 const NOTIFIED: Decision = Decision::Take(Taken {
     next: State::U3,
-    actions: 1,
+    actions: action::INFORM,
     sends: Send::Nothing,
     stops: Timer::NoTimer,
     sets: Timer::NoTimer,
@@ -65,7 +68,7 @@ const NOTIFIED: Decision = Decision::Take(Taken {
 // 3, join.
 const JOINED: Decision = Decision::Take(Taken {
     next: State::U4,
-    actions: 4,
+    actions: action::REQUEST_GROUP_RECEIVE,
     sends: Send::Nothing,
     stops: Timer::NoTimer,
     sets: Timer::ConnReq,
@@ -77,7 +80,7 @@ const JOINED: Decision = Decision::Take(Taken {
 // 6, MM connection established.
 const ESTABLISHED: Decision = Decision::Take(Taken {
     next: State::U1,
-    actions: 0,
+    actions: action::NONE,
     sends: Send::Setup,
     stops: Timer::MmEst,
     sets: Timer::NoTimer,
@@ -89,7 +92,7 @@ const ESTABLISHED: Decision = Decision::Take(Taken {
 // 11, 34 and 35 in U4: the mode that RR entered.
 const JOINED_RECEIVING: Decision = Decision::Take(Taken {
     next: State::U2r,
-    actions: 1,
+    actions: action::INFORM,
     sends: Send::Nothing,
     stops: Timer::ConnReq,
     sets: Timer::NoTimer,
@@ -100,7 +103,7 @@ const JOINED_RECEIVING: Decision = Decision::Take(Taken {
 
 const JOINED_SENDING: Decision = Decision::Take(Taken {
     next: State::U2sr,
-    actions: 1,
+    actions: action::INFORM,
     sends: Send::Nothing,
     stops: Timer::ConnReq,
     sets: Timer::NoTimer,
@@ -111,7 +114,7 @@ const JOINED_SENDING: Decision = Decision::Take(Taken {
 
 const JOINED_SEPARATELY: Decision = Decision::Take(Taken {
     next: State::U2sl,
-    actions: 1,
+    actions: action::INFORM,
     sends: Send::Nothing,
     stops: Timer::ConnReq,
     sets: Timer::NoTimer,
@@ -123,7 +126,7 @@ const JOINED_SEPARATELY: Decision = Decision::Take(Taken {
 // 32, request receive mode.
 const RECEIVE_MODE_REQUESTED: Decision = Decision::Take(Taken {
     next: State::U2wr,
-    actions: 4,
+    actions: action::REQUEST_GROUP_RECEIVE,
     sends: Send::Nothing,
     stops: Timer::NoTimer,
     sets: Timer::NoTimer,
@@ -135,7 +138,7 @@ const RECEIVE_MODE_REQUESTED: Decision = Decision::Take(Taken {
 // 33, request talk.
 const TALK_REQUESTED: Decision = Decision::Take(Taken {
     next: State::U2ws,
-    actions: 64,
+    actions: action::REQUEST_GROUP_TRANSMIT,
     sends: Send::Nothing,
     stops: Timer::NoTimer,
     sets: Timer::NoTimer,
@@ -147,7 +150,7 @@ const TALK_REQUESTED: Decision = Decision::Take(Taken {
 // 11, 34 and 35 in a sub-state of U2.
 const RECEIVING: Decision = Decision::Take(Taken {
     next: State::U2r,
-    actions: 0,
+    actions: action::NONE,
     sends: Send::Nothing,
     stops: Timer::NoChannel,
     sets: Timer::NoTimer,
@@ -158,7 +161,7 @@ const RECEIVING: Decision = Decision::Take(Taken {
 
 const SENDING: Decision = Decision::Take(Taken {
     next: State::U2sr,
-    actions: 0,
+    actions: action::NONE,
     sends: Send::Nothing,
     stops: Timer::NoChannel,
     sets: Timer::NoTimer,
@@ -169,7 +172,7 @@ const SENDING: Decision = Decision::Take(Taken {
 
 const SEPARATE: Decision = Decision::Take(Taken {
     next: State::U2sl,
-    actions: 0,
+    actions: action::NONE,
     sends: Send::Nothing,
     stops: Timer::NoChannel,
     sets: Timer::NoTimer,
@@ -181,7 +184,7 @@ const SEPARATE: Decision = Decision::Take(Taken {
 // 12, no channel: T_no channel is set unless running.
 const NO_CHANNEL: Decision = Decision::Take(Taken {
     next: State::U2nc,
-    actions: 0,
+    actions: action::NONE,
     sends: Send::Nothing,
     stops: Timer::NoTimer,
     sets: Timer::NoChannel,
@@ -193,7 +196,7 @@ const NO_CHANNEL: Decision = Decision::Take(Taken {
 // The same while it runs.
 const STILL_NO_CHANNEL: Decision = Decision::Take(Taken {
     next: State::U2nc,
-    actions: 0,
+    actions: action::NONE,
     sends: Send::Nothing,
     stops: Timer::NoTimer,
     sets: Timer::NoTimer,
@@ -205,7 +208,7 @@ const STILL_NO_CHANNEL: Decision = Decision::Take(Taken {
 // 4, terminate, in U2r: talk is asked for.
 const ASKED_IN_U2R: Decision = Decision::Take(Taken {
     next: State::U2ws,
-    actions: 64,
+    actions: action::REQUEST_GROUP_TRANSMIT,
     sends: Send::Nothing,
     stops: Timer::NoTimer,
     sets: Timer::NoTimer,
@@ -217,7 +220,7 @@ const ASKED_IN_U2R: Decision = Decision::Take(Taken {
 // GET STATUS in U2r: talk is asked for.
 const STATUS_IN_U2R: Decision = Decision::Take(Taken {
     next: State::U2ws,
-    actions: 64,
+    actions: action::REQUEST_GROUP_TRANSMIT,
     sends: Send::Nothing,
     stops: Timer::NoTimer,
     sets: Timer::NoTimer,
@@ -229,7 +232,7 @@ const STATUS_IN_U2R: Decision = Decision::Take(Taken {
 // CONNECT: 32 if in U1 with T_MM-est, else 0.
 const CONNECTED: Decision = Decision::Take(Taken {
     next: State::U2sl,
-    actions: 0,
+    actions: action::NONE,
     sends: Send::Nothing,
     stops: Timer::MmEst,
     sets: Timer::NoTimer,
@@ -241,7 +244,7 @@ const CONNECTED: Decision = Decision::Take(Taken {
 // The same in U1 with T_MM-est.
 const CONNECTED_IMPLICITLY: Decision = Decision::Take(Taken {
     next: State::U2sl,
-    actions: 32,
+    actions: action::TELL_MM_EXISTS,
     sends: Send::Nothing,
     stops: Timer::MmEst,
     sets: Timer::NoTimer,
@@ -253,7 +256,7 @@ const CONNECTED_IMPLICITLY: Decision = Decision::Take(Taken {
 // TERMINATION, in all states but U0.
 const TERMINATED: Decision = Decision::Take(Taken {
     next: State::U0,
-    actions: 17,
+    actions: action::INFORM + action::RELEASE,
     sends: Send::Nothing,
     stops: Timer::NoTimer,
     sets: Timer::NoTimer,
@@ -263,9 +266,9 @@ const TERMINATED: Decision = Decision::Take(Taken {
 });
 
 // A type that is not compatible with the state, and one that does not exist.
-const INCOMPATIBLE: Decision = Decision::Report(98);
+const INCOMPATIBLE: Decision = Decision::Report(cause::TYPE_NOT_COMPATIBLE);
 
-const UNKNOWN: Decision = Decision::Report(97);
+const UNKNOWN: Decision = Decision::Report(cause::TYPE_NON_EXISTENT);
 
 // A row that stays in its state and notes something.
 fn staying(state: State, note: Note) -> Decision
@@ -273,7 +276,7 @@ fn staying(state: State, note: Note) -> Decision
 {
     Decision::Take(Taken {
         next: state,
-        actions: 0,
+        actions: action::NONE,
         sends: Send::Nothing,
         stops: Timer::NoTimer,
         sets: Timer::NoTimer,
@@ -290,7 +293,7 @@ fn returned(remembered: Remembered) -> Decision
     let next = context::returning(remembered, State::U5);
     Decision::Take(Taken {
         next,
-        actions: 1,
+        actions: action::INFORM,
         sends: Send::Nothing,
         stops: Timer::Term,
         sets: Timer::NoTimer,
@@ -319,15 +322,15 @@ fn in_sub_state(state: State, asked: Decision, context: Context, number: u8) -> 
     let talk = context.talk;
     let dropped = staying(state, Note::TerminationDropped);
     match number {
-        12 => no_channel(timers.nochannel),
-        11 => RECEIVING,
-        34 => SENDING,
-        35 => SEPARATE,
-        4 => where_true(parameters.orig, asked),
-        36 => where_true(talk.termination, dropped),
-        5 => ENDS_RELEASING,
-        9 => ENDS_INFORMING_ABORTING,
-        8 => ENDS_INFORMING_ABORTING,
+        event::NO_CHANNEL => no_channel(timers.nochannel),
+        event::GROUP_RECEIVE => RECEIVING,
+        event::GROUP_TRANSMIT => SENDING,
+        event::DEDICATED => SEPARATE,
+        event::TERMINATE => where_true(parameters.orig, asked),
+        event::DELETE_REQUEST => where_true(talk.termination, dropped),
+        event::RELEASE => ENDS_RELEASING,
+        event::ABORT_OR_RELEASE => ENDS_INFORMING_ABORTING,
+        event::RADIO_LINK_FAILURE => ENDS_INFORMING_ABORTING,
         0..=3 | 6..=7 | 10..=10 | 13..=33 | 37..=255 => Decision::NoStep,
     }
 }
@@ -335,7 +338,7 @@ fn in_sub_state(state: State, asked: Decision, context: Context, number: u8) -> 
 fn in_u2sl(context: Context, number: u8) -> Decision
     ensures { λ r. ⌜ r ≡ happenedIn (rowsOf Group Table.Group) U2sl context number ⌝ }
 {
-    if number == 32 {
+    if number == event::RECEIVE_MODE {
         return RECEIVE_MODE_REQUESTED;
     }
     let asked = staying(State::U2sl, Note::TerminationPends);
@@ -345,7 +348,7 @@ fn in_u2sl(context: Context, number: u8) -> Decision
 fn in_u2wr(context: Context, number: u8) -> Decision
     ensures { λ r. ⌜ r ≡ happenedIn (rowsOf Group Table.Group) U2wr context number ⌝ }
 {
-    if number == 33 {
+    if number == event::TALK {
         return TALK_REQUESTED;
     }
     let asked = staying(State::U2wr, Note::TerminationPends);
@@ -355,7 +358,7 @@ fn in_u2wr(context: Context, number: u8) -> Decision
 fn in_u2r(context: Context, number: u8) -> Decision
     ensures { λ r. ⌜ r ≡ happenedIn (rowsOf Group Table.Group) U2r context number ⌝ }
 {
-    if number == 33 {
+    if number == event::TALK {
         return TALK_REQUESTED;
     }
     in_sub_state(State::U2r, ASKED_IN_U2R, context, number)
@@ -371,7 +374,7 @@ fn in_u2ws(context: Context, number: u8) -> Decision
 fn in_u2sr(context: Context, number: u8) -> Decision
     ensures { λ r. ⌜ r ≡ happenedIn (rowsOf Group Table.Group) U2sr context number ⌝ }
 {
-    if number == 32 {
+    if number == event::RECEIVE_MODE {
         return RECEIVE_MODE_REQUESTED;
     }
     let asked = staying(State::U2sr, Note::TerminationPends);
@@ -382,7 +385,7 @@ fn in_u2nc(context: Context, number: u8) -> Decision
     ensures { λ r. ⌜ r ≡ happenedIn (rowsOf Group Table.Group) U2nc context number ⌝ }
 {
     let timers = context.timers;
-    if number == 17 {
+    if number == event::NO_CHANNEL_EXPIRED {
         return where_true(timers.nochannel, ENDS_INFORMING_ABORTING);
     }
     let asked = staying(State::U2nc, Note::TerminationPends);
@@ -393,9 +396,9 @@ fn in_u0(context: Context, number: u8) -> Decision
     ensures { λ r. ⌜ r ≡ happenedIn (rowsOf Group Table.Group) U0 context number ⌝ }
 {
     match number {
-        1 => SET_UP,
-        2 => IMMEDIATE_SET_UP,
-        10 => NOTIFIED,
+        event::SET_UP => SET_UP,
+        event::IMMEDIATE_SET_UP => IMMEDIATE_SET_UP,
+        event::NOTIFIED => NOTIFIED,
         0..=0 | 3..=9 | 11..=255 => Decision::NoStep,
     }
 }
@@ -404,12 +407,12 @@ fn in_u0p(context: Context, number: u8) -> Decision
     ensures { λ r. ⌜ r ≡ happenedIn (rowsOf Group Table.Group) U0p context number ⌝ }
 {
     match number {
-        6 => ESTABLISHED,
-        7 => ENDS,
-        14 => ENDS_ABORTING,
-        8 => ENDS_ABORTING,
-        5 => ENDS_RELEASING,
-        9 => ENDS_INFORMING_ABORTING,
+        event::MM_ESTABLISHED => ESTABLISHED,
+        event::MM_FAILED => ENDS,
+        event::MM_EST_EXPIRED => ENDS_ABORTING,
+        event::RADIO_LINK_FAILURE => ENDS_ABORTING,
+        event::RELEASE => ENDS_RELEASING,
+        event::ABORT_OR_RELEASE => ENDS_INFORMING_ABORTING,
         0..=4 | 10..=13 | 15..=255 => Decision::NoStep,
     }
 }
@@ -423,13 +426,13 @@ fn in_u1(context: Context, number: u8) -> Decision
     let asked = staying(State::U1, Note::TerminationPends);
     let dropped = staying(State::U1, Note::TerminationDropped);
     match number {
-        4 => where_true(parameters.orig, asked),
-        36 => where_true(talk.termination, dropped),
-        7 => where_true(timers.mmest, ENDS),
-        14 => where_true(timers.mmest, ENDS_ABORTING),
-        8 => ENDS_ABORTING,
-        5 => ENDS_RELEASING,
-        9 => ENDS_INFORMING_ABORTING,
+        event::TERMINATE => where_true(parameters.orig, asked),
+        event::DELETE_REQUEST => where_true(talk.termination, dropped),
+        event::MM_FAILED => where_true(timers.mmest, ENDS),
+        event::MM_EST_EXPIRED => where_true(timers.mmest, ENDS_ABORTING),
+        event::RADIO_LINK_FAILURE => ENDS_ABORTING,
+        event::RELEASE => ENDS_RELEASING,
+        event::ABORT_OR_RELEASE => ENDS_INFORMING_ABORTING,
         0..=3 | 6..=6 | 10..=13 | 15..=35 | 37..=255 => Decision::NoStep,
     }
 }
@@ -438,11 +441,11 @@ fn in_u3(context: Context, number: u8) -> Decision
     ensures { λ r. ⌜ r ≡ happenedIn (rowsOf Group Table.Group) U3 context number ⌝ }
 {
     match number {
-        3 => JOINED,
-        19 => Decision::NoStep,
-        5 => ENDS_RELEASING,
-        9 => ENDS_INFORMING_ABORTING,
-        8 => ENDS_INFORMING_ABORTING,
+        event::JOIN => JOINED,
+        event::PRES_EXPIRED => Decision::NoStep,
+        event::RELEASE => ENDS_RELEASING,
+        event::ABORT_OR_RELEASE => ENDS_INFORMING_ABORTING,
+        event::RADIO_LINK_FAILURE => ENDS_INFORMING_ABORTING,
         0..=2 | 4..=4 | 6..=7 | 10..=18 | 20..=255 => Decision::NoStep,
     }
 }
@@ -451,13 +454,13 @@ fn in_u4(context: Context, number: u8) -> Decision
     ensures { λ r. ⌜ r ≡ happenedIn (rowsOf Group Table.Group) U4 context number ⌝ }
 {
     match number {
-        34 => JOINED_SENDING,
-        35 => JOINED_SEPARATELY,
-        11 => JOINED_RECEIVING,
-        16 => ENDS_INFORMING_ABORTING,
-        5 => ENDS_RELEASING,
-        9 => ENDS_INFORMING_ABORTING,
-        8 => ENDS_INFORMING_ABORTING,
+        event::GROUP_TRANSMIT => JOINED_SENDING,
+        event::DEDICATED => JOINED_SEPARATELY,
+        event::GROUP_RECEIVE => JOINED_RECEIVING,
+        event::CONN_REQ_EXPIRED => ENDS_INFORMING_ABORTING,
+        event::RELEASE => ENDS_RELEASING,
+        event::ABORT_OR_RELEASE => ENDS_INFORMING_ABORTING,
+        event::RADIO_LINK_FAILURE => ENDS_INFORMING_ABORTING,
         0..=4 | 6..=7 | 10..=10 | 12..=15 | 17..=33 | 36..=255 => Decision::NoStep,
     }
 }
@@ -467,10 +470,10 @@ fn in_u5(context: Context, number: u8) -> Decision
 {
     let timers = context.timers;
     match number {
-        15 => where_true(timers.term, ENDS_INFORMING_ABORTING),
-        5 => ENDS_RELEASING,
-        9 => ENDS_INFORMING_ABORTING,
-        8 => ENDS_INFORMING_ABORTING,
+        event::TERM_EXPIRED => where_true(timers.term, ENDS_INFORMING_ABORTING),
+        event::RELEASE => ENDS_RELEASING,
+        event::ABORT_OR_RELEASE => ENDS_INFORMING_ABORTING,
+        event::RADIO_LINK_FAILURE => ENDS_INFORMING_ABORTING,
         0..=4 | 6..=7 | 10..=14 | 16..=255 => Decision::NoStep,
     }
 }

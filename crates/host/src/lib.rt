@@ -1,4 +1,4 @@
-// The host's side: its one context, lent to be changed in place.
+// The host's side: its one context, lent to be changed in place. Nothing here calls it (the library for C takes octets): it is there for hosts in Rattle, in the form that document 01 names.
 ghost use mathlib.Core.Path.{_≡_};
 ghost use lib.ListN.{length};
 ghost use lib.Seq.{sets};

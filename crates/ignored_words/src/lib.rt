@@ -92,6 +92,7 @@ fn tell_end(end: End, number: usize) -> u8 {
         End::Torn(_) => tell_refused(number),
         End::Stuck(_) => tell_refused(number),
         End::Astray => tell_refused(number),
+        End::Paused => tell_refused(number),
     }
 }
 

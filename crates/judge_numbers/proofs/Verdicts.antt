@@ -10,7 +10,7 @@ use Rattle.message.specs.declared.Own.{Own}
 use Rattle.timer.specs.declared.Window.{Window}
 use Rattle.timer.specs.Timers.{invitationGreatest}
 use Rattle.version.specs.declared.Table.{Table}
-use Rattle.table.specs.Timers.{Interval}
+use Rattle.judge_laws.specs.Timers.{Interval}
 use Rattle.verdict.specs.declared.Invitation.{Invitation}
 use Rattle.verdict.specs.declared.Invitation.the-variants.{Untold, Told}
 use Rattle.verdict.specs.Table.{tellsInvitation}

@@ -6,6 +6,7 @@ ghost use Rattle.octets.specs.Run.{part};
 ghost use Rattle.verdict.specs.Judge.{judgeOf};
 ghost use Rattle.settings_octets.specs.Octets.{identityOf, ownOf};
 ghost use Rattle.judge_numbers.specs.Judging.{Fits, Timed, acceptedWith, atEntry, judgementOf, windowTold};
+use codes::wide::answer;
 use message::Own;
 use octets::Run;
 use timer::Window;
@@ -55,7 +56,7 @@ fn accepted_with(count: usize, joining: Window, invitation: Window) -> Judgement
     ensures { λ r. ⌜ r ≡ acceptedWith count joining invitation ⌝ }
 {
     Judgement {
-        answer: 0,
+        answer: answer::TAKEN,
         entry: count,
         least: joining.least as u32,
         greatest: joining.greatest as u32,
@@ -73,10 +74,10 @@ fn judgement_of(judged: Judged) -> Judgement
         Judged::Accepted(count, joining, invitation) => {
             accepted_with(count, joining, window_told(invitation))
         }
-        Judged::Unreadable(entry) => at_entry(8, entry),
-        Judged::Unexplained(entry) => at_entry(9, entry),
-        Judged::TooLong => at_entry(10, 0),
-        Judged::OutOfRange => at_entry(4, 0),
+        Judged::Unreadable(entry) => at_entry(answer::UNREADABLE_LOG, entry),
+        Judged::Unexplained(entry) => at_entry(answer::UNEXPLAINED, entry),
+        Judged::TooLong => at_entry(answer::LONG_LOG, 0),
+        Judged::OutOfRange => at_entry(answer::OUT_OF_RANGE, 0),
     }
 }
 

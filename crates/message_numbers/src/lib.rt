@@ -14,6 +14,7 @@ ghost use Rattle.message_numbers.specs.Outcomes.{
 };
 use back::message_of;
 use codes::protocol::Protocol;
+use codes::wide::answer;
 use kinds::numbers_of;
 use message::Fault;
 use message::Message;
@@ -125,12 +126,12 @@ pub fn read(protocol: Protocol, octets: &[u8]) -> NumbersRead
             value,
             message,
         } => NumbersRead {
-            answer: 0,
+            answer: answer::TAKEN,
             fault: 0,
             message: numbers_of(flag, value, message),
         },
-        Reading::Unreadable(fault) => refused_with(13, fault_number(fault)),
-        Reading::TooLong => refused_with(6, 0),
+        Reading::Unreadable(fault) => refused_with(answer::UNREADABLE, fault_number(fault)),
+        Reading::TooLong => refused_with(answer::LONG_MESSAGE, 0),
     }
 }
 
@@ -139,13 +140,16 @@ fn wrote_numbers(wrote: Wrote) -> NumbersWritten
     ensures { λ r. ⌜ r ≡ wroteNumbers wrote ⌝ }
 {
     match wrote {
-        Wrote::Written(length) => NumbersWritten { answer: 0, length },
+        Wrote::Written(length) => NumbersWritten {
+            answer: answer::TAKEN,
+            length,
+        },
         Wrote::ShortBuffer => NumbersWritten {
-            answer: 5,
+            answer: answer::SHORT_BUFFER,
             length: 0,
         },
         Wrote::OutOfRange => NumbersWritten {
-            answer: 4,
+            answer: answer::OUT_OF_RANGE,
             length: 0,
         },
     }
@@ -157,12 +161,12 @@ fn not_written(room: usize) -> NumbersWritten
 {
     if room < 255 {
         return NumbersWritten {
-            answer: 5,
+            answer: answer::SHORT_BUFFER,
             length: 0,
         };
     }
     NumbersWritten {
-        answer: 4,
+        answer: answer::OUT_OF_RANGE,
         length: 0,
     }
 }

@@ -11,6 +11,8 @@ ghost use Rattle.transitions.specs.declared.Note.the-variants as Note;
 ghost use Rattle.codes.specs.declared.protocol.Protocol.the-variants.{Broadcast};
 ghost use Rattle.transitions.specs.declared.Decision.the-variants.{Take};
 ghost use Rattle.transitions.specs.Table.{rowsOf, heardIn, decidedBy, decidedOf};
+use codes::action;
+use codes::cause;
 use codes::message_type;
 use codes::protocol::Protocol;
 use codes::state::State;
@@ -28,7 +30,7 @@ use version::Table;
 // CONNECT: 32 if in U1 with T_MM-est, else 0.
 const CONNECTED: Decision = Decision::Take(Taken {
     next: State::U2,
-    actions: 0,
+    actions: action::NONE,
     sends: Send::Nothing,
     stops: Timer::MmEst,
     sets: Timer::NoTimer,
@@ -40,7 +42,7 @@ const CONNECTED: Decision = Decision::Take(Taken {
 // The same in U1 with T_MM-est.
 const CONNECTED_IMPLICITLY: Decision = Decision::Take(Taken {
     next: State::U2,
-    actions: 32,
+    actions: action::TELL_MM_EXISTS,
     sends: Send::Nothing,
     stops: Timer::MmEst,
     sets: Timer::NoTimer,
@@ -52,7 +54,7 @@ const CONNECTED_IMPLICITLY: Decision = Decision::Take(Taken {
 // TERMINATION REJECT in U5, by the first table: the radio stays there.
 const REJECTED: Decision = Decision::Take(Taken {
     next: State::U5,
-    actions: 1,
+    actions: action::INFORM,
     sends: Send::Nothing,
     stops: Timer::Term,
     sets: Timer::NoTimer,
@@ -64,7 +66,7 @@ const REJECTED: Decision = Decision::Take(Taken {
 // TERMINATION, in all states but U0 and the sub-states of U2.
 const TERMINATED: Decision = Decision::Take(Taken {
     next: State::U0,
-    actions: 17,
+    actions: action::INFORM + action::RELEASE,
     sends: Send::Nothing,
     stops: Timer::NoTimer,
     sets: Timer::NoTimer,
@@ -74,10 +76,10 @@ const TERMINATED: Decision = Decision::Take(Taken {
 });
 
 // A type that is not compatible with the state.
-const INCOMPATIBLE: Decision = Decision::Report(98);
+const INCOMPATIBLE: Decision = Decision::Report(cause::TYPE_NOT_COMPATIBLE);
 
 // A type that does not exist.
-const UNKNOWN: Decision = Decision::Report(97);
+const UNKNOWN: Decision = Decision::Report(cause::TYPE_NON_EXISTENT);
 
 // The same from the second table on: back to where the termination was asked from.
 fn returned(remembered: Remembered) -> Decision
@@ -86,7 +88,7 @@ fn returned(remembered: Remembered) -> Decision
     let next = context::returning(remembered, State::U5);
     Decision::Take(Taken {
         next,
-        actions: 1,
+        actions: action::INFORM,
         sends: Send::Nothing,
         stops: Timer::Term,
         sets: Timer::NoTimer,

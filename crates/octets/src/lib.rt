@@ -1,8 +1,9 @@
-// Octets that stand together: runs of a lent slice, the four of a call reference; and a run of one lent slice copied to a place of another.
+// Octets that stand together: runs of a lent slice, the four of a call reference, those of a number; and a run of one lent slice copied to a place of another.
 ghost use mathlib.Core.Path.{_≡_};
 ghost use Prim.Native.Nat.{_+_, _≤_};
 ghost use lib.ListN.{length};
 ghost use lib.Seq.{sets};
+ghost use Rattle.octets.specs.Little.{little};
 ghost use Rattle.octets.specs.Run.{part};
 
 // Octets of a lent slice: the place of the first, and how many.
@@ -27,4 +28,16 @@ pub fn copy_to(buffer: &mut [u8], at: usize, source: &[u8], start: usize, count:
     for step in 0..count {
         buffer[at + step] = source[start + step];
     }
+}
+
+// The four octets of a number, the lowest first. What is beyond them is not written.
+pub fn little(number: u64) -> [u8; 4]
+    ensures { λ r. ⌜ r ≡ little number ⌝ }
+{
+    [
+        (number % 256) as u8,
+        (number / 256 % 256) as u8,
+        (number / 65536 % 256) as u8,
+        (number / 16777216 % 256) as u8,
+    ]
 }

@@ -3,4 +3,5 @@ pub mod Range
 pub mod Reacting
 pub mod Answers
 pub mod Reasons
+pub mod Messages
 pub mod Coincide

@@ -7,6 +7,8 @@ ghost use Rattle.version.specs.Version.{newest};
 ghost use Rattle.radio.specs.Step.{eventOf, dueTo, reactedTo, fitnessRefusal, refusalOf, shown, stepOf, takenOf};
 use call::Due;
 use call::Event;
+use codes::answer;
+use codes::wide::event;
 use context::Context;
 use message::Own;
 use octets::Reference;
@@ -46,30 +48,30 @@ fn event_of(number: u32, value: u8, reference: Reference) -> Told
     ensures { λ r. ⌜ r ≡ eventOf number value reference ⌝ }
 {
     match number {
-        1 => Told::Is(Event::SetUp(value, reference)),
-        2 => Told::Is(Event::ImmediateSetUp(value, reference)),
-        3 => Told::Is(Event::Join),
-        4 => Told::Is(Event::Terminate),
-        5 => Told::Is(Event::Release),
-        6 => Told::Is(Event::Established),
-        7 => Told::Is(Event::EstablishmentFailed),
-        8 => Told::Is(Event::LinkFailure),
-        9 => Told::Is(Event::AbortDetected),
-        10 => Told::Is(Event::Notified(value, reference)),
-        11 => Told::Is(Event::ReceiveModeEntered),
-        12 => Told::Is(Event::NoChannel),
-        13 => Told::Is(Event::ChannelAvailable),
-        14 => Told::Is(Event::MmEstExpired),
-        15 => Told::Is(Event::TermExpired),
-        16 => Told::Is(Event::ConnReqExpired),
-        17 => Told::Is(Event::NoChannelExpired),
-        18 => Told::NoEvent,
-        19 => Told::Is(Event::PresExpired),
-        32 => Told::Is(Event::ReceiveModeRequested),
-        33 => Told::Is(Event::TalkRequested),
-        34 => Told::Is(Event::TransmitModeEntered),
-        35 => Told::Is(Event::DedicatedModeEntered),
-        36 => Told::Is(Event::TerminationDeleted),
+        event::SET_UP => Told::Is(Event::SetUp(value, reference)),
+        event::IMMEDIATE_SET_UP => Told::Is(Event::ImmediateSetUp(value, reference)),
+        event::JOIN => Told::Is(Event::Join),
+        event::TERMINATE => Told::Is(Event::Terminate),
+        event::RELEASE => Told::Is(Event::Release),
+        event::MM_ESTABLISHED => Told::Is(Event::Established),
+        event::MM_FAILED => Told::Is(Event::EstablishmentFailed),
+        event::RADIO_LINK_FAILURE => Told::Is(Event::LinkFailure),
+        event::ABORT_OR_RELEASE => Told::Is(Event::AbortDetected),
+        event::NOTIFIED => Told::Is(Event::Notified(value, reference)),
+        event::GROUP_RECEIVE => Told::Is(Event::ReceiveModeEntered),
+        event::NO_CHANNEL => Told::Is(Event::NoChannel),
+        event::CHANNEL_AVAILABLE => Told::Is(Event::ChannelAvailable),
+        event::MM_EST_EXPIRED => Told::Is(Event::MmEstExpired),
+        event::TERM_EXPIRED => Told::Is(Event::TermExpired),
+        event::CONN_REQ_EXPIRED => Told::Is(Event::ConnReqExpired),
+        event::NO_CHANNEL_EXPIRED => Told::Is(Event::NoChannelExpired),
+        event::RECEIVED => Told::NoEvent,
+        event::PRES_EXPIRED => Told::Is(Event::PresExpired),
+        event::RECEIVE_MODE => Told::Is(Event::ReceiveModeRequested),
+        event::TALK => Told::Is(Event::TalkRequested),
+        event::GROUP_TRANSMIT => Told::Is(Event::TransmitModeEntered),
+        event::DEDICATED => Told::Is(Event::DedicatedModeEntered),
+        event::DELETE_REQUEST => Told::Is(Event::TerminationDeleted),
         _ => Told::NoEvent,
     }
 }
@@ -79,7 +81,7 @@ fn due_to(table: Table, context: Context, identity: &[u8], happened: Happened, o
     ensures { λ r. ⌜ r ≡ dueTo table (now (identity .entry)) context happened (now (octets .entry)) ⌝ }
 {
     let reference = happened.reference;
-    if happened.number == 18 {
+    if happened.number == event::RECEIVED {
         return received::listen(table, context, identity, happened.mode, octets);
     }
     match event_of(happened.number, happened.value, reference) {
@@ -107,7 +109,7 @@ fn fitness_refusal(table: Table, context: Context) -> u8
     ensures { λ r. ⌜ r ≡ fitnessRefusal table context ⌝ }
 {
     if !fitness::is_fit(table, context) {
-        return 7;
+        return answer::NO_CONTEXT;
     }
     0
 }

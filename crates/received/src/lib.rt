@@ -8,6 +8,7 @@ ghost use Rattle.received.specs.Due.{dueOf, understoodDue};
 use call::Due;
 use call::Event;
 use call::Reason;
+use codes::cause;
 use codes::protocol::Protocol;
 use codes::protocol::discriminator;
 use context::Context;
@@ -82,7 +83,7 @@ fn type_cause(table: Table, context: Context, kind: u8) -> u8
     ensures { λ r. ⌜ r ≡ typeCause table context kind ⌝ }
 {
     if 128 <= kind {
-        return 97;
+        return cause::TYPE_NON_EXISTENT;
     }
     let decision = message_rows::decide(table, context, kind % 64);
     cause_in(decision)
@@ -173,7 +174,7 @@ fn understand(
     }
     let must = must_name_us(protocol);
     if must & asked.disowns {
-        return Due::Reported(95);
+        return Due::Reported(cause::SEMANTICALLY_INCORRECT);
     }
     Due::Steps(Event::Received(mode, value, message))
 }
@@ -207,7 +208,7 @@ pub fn listen(table: Table, context: Context, identity: &[u8], mode: u8, octets:
             value,
             message,
         } => understand(protocol, identity, mode, octets, value, message),
-        Reading::Unreadable(_) => Due::Reported(96),
-        Reading::TooLong => Due::Reported(96),
+        Reading::Unreadable(_) => Due::Reported(cause::INVALID_MANDATORY_INFORMATION),
+        Reading::TooLong => Due::Reported(cause::INVALID_MANDATORY_INFORMATION),
     }
 }

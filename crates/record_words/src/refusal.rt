@@ -1,4 +1,5 @@
 // Why a script is refused: the line's number, its text, what is wrong there and what is wanted.
+use codes::answer;
 use codes::protocol::Protocol;
 use log_words::entry::tell_long;
 use saying::tell;
@@ -79,8 +80,12 @@ fn tell_answer(answer: u8) {
     tell(b"the step answers ");
     tell_number(answer);
     match answer {
-        4 => tell(b", argument outside its range: a transaction value is 0 to 6"),
-        6 => tell(b", received message over 251 octets: it has at most 251 octets"),
+        answer::OUT_OF_RANGE => tell(
+            b", argument outside its range: a transaction value is 0 to 6",
+        ),
+        answer::LONG_MESSAGE => tell(
+            b", received message over 251 octets: it has at most 251 octets",
+        ),
         _ => tell(b", and a log holds only answers 0 to 3"),
     }
 }

@@ -13,6 +13,7 @@ use call::Sending;
 use call::Sent;
 use codes::attributes::Parameters;
 use codes::attributes::attributes_of;
+use codes::cause;
 use codes::protocol::Protocol;
 use codes::state::State;
 use codes::state::call_state_code;
@@ -25,6 +26,9 @@ use octets::Run;
 use octets::copy_to;
 use transitions::Send;
 use writing::Wrote;
+
+// "Response to GET STATUS" as the one octet of a cause: bit 8 says that no part follows.
+const ASKED_FOR: u8 = 128 + cause::RESPONSE_TO_GET_STATUS;
 
 // How many octets writing wrote.
 fn written_count(wrote: Wrote) -> usize
@@ -267,7 +271,7 @@ fn put_due(
     if !due {
         return at;
     }
-    let cause = [158u8; 1];
+    let cause = [ASKED_FOR; 1];
     let sender = sender_of(context);
     let wrote = writing::put(
         protocol,

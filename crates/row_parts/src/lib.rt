@@ -1,15 +1,13 @@
 // Parts of the step table's rows: those that lead to U0, those that differ from table to table, and those that hold only where something is true.
 ghost use mathlib.Core.Path.{_≡_};
 ghost use mathlib.Core.Bool.{cond};
-ghost use Rattle.codes.specs.declared.state.State.the-variants.{U3, U4, U5};
+ghost use Rattle.codes.specs.declared.state.State.the-variants.{U0, U2, U3};
 ghost use Rattle.codes.specs.declared.protocol.Protocol.the-variants.{Broadcast};
-ghost use Rattle.transitions.specs.declared.Decision.the-variants.{Take, NoStep};
-ghost use Rattle.transitions.specs.declared.Send.the-variants.{Nothing, TerminationRequest};
-ghost use Rattle.transitions.specs.declared.Memory.the-variants.{Keep};
-ghost use Rattle.transitions.specs.declared.Note.the-variants as Note;
-ghost use Rattle.transitions.specs.declared.Stores.the-variants as Stores;
-ghost use Rattle.timer.specs.declared.Timer.the-variants.{NoTimer, MmEst, Term, ConnReq};
+ghost use Rattle.context.specs.Context.{cleared};
+ghost use Rattle.transitions.specs.declared.Decision.the-variants.{NoStep};
 ghost use Rattle.transitions.specs.Table.{asking, inviting, rowsOf, happenedIn};
+ghost use Rattle.row_parts.specs.Asked.{originating};
+use codes::action;
 use codes::state::State;
 use context::Context;
 use timer::Timer;
@@ -24,7 +22,7 @@ use version::Table;
 // The rows that lead to U0 differ by their actions: none, ..
 pub const ENDS: Decision = Decision::Take(Taken {
     next: State::U0,
-    actions: 0,
+    actions: action::NONE,
     sends: Send::Nothing,
     stops: Timer::NoTimer,
     sets: Timer::NoTimer,
@@ -36,7 +34,7 @@ pub const ENDS: Decision = Decision::Take(Taken {
 // .. 8 abort, ..
 pub const ENDS_ABORTING: Decision = Decision::Take(Taken {
     next: State::U0,
-    actions: 8,
+    actions: action::ABORT,
     sends: Send::Nothing,
     stops: Timer::NoTimer,
     sets: Timer::NoTimer,
@@ -48,7 +46,7 @@ pub const ENDS_ABORTING: Decision = Decision::Take(Taken {
 // .. 16 release, ..
 pub const ENDS_RELEASING: Decision = Decision::Take(Taken {
     next: State::U0,
-    actions: 16,
+    actions: action::RELEASE,
     sends: Send::Nothing,
     stops: Timer::NoTimer,
     sets: Timer::NoTimer,
@@ -60,7 +58,7 @@ pub const ENDS_RELEASING: Decision = Decision::Take(Taken {
 // .. 1 inform higher layers and 8 abort.
 pub const ENDS_INFORMING_ABORTING: Decision = Decision::Take(Taken {
     next: State::U0,
-    actions: 9,
+    actions: action::INFORM + action::ABORT,
     sends: Send::Nothing,
     stops: Timer::NoTimer,
     sets: Timer::NoTimer,
@@ -81,15 +79,15 @@ fn asking(table: Table) -> Memory
     }
 }
 
-// 4, terminate: where ORIG is true.
+// 4, terminate, in U1 and U2: where ORIG is true.
 pub fn terminated(table: Table, orig: bool) -> Decision
-    ensures { λ r. ⌜ r ≡ cond orig (Take (record { next = U5; actions = 0; sends = TerminationRequest; stops = MmEst; sets = Term; stores = Stores.Nothing; memory = asking table; note = Note.Nothing })) NoStep ⌝ }
+    ensures { λ r. ⌜ r ≡ happenedIn (rowsOf Broadcast table) U2 (originating orig) 4 ⌝ }
 {
     let memory = asking(table);
     if orig {
         return Decision::Take(Taken {
             next: State::U5,
-            actions: 0,
+            actions: action::NONE,
             sends: Send::TerminationRequest,
             stops: Timer::MmEst,
             sets: Timer::Term,
@@ -123,14 +121,14 @@ fn inviting(table: Table) -> Timer
     }
 }
 
-// 10, broadcast notified.
+// 10, broadcast notified, in U0. Its row asks for nothing of the context.
 pub fn notified(table: Table) -> Decision
-    ensures { λ r. ⌜ r ≡ Take (record { next = U3; actions = 1; sends = Nothing; stops = NoTimer; sets = inviting table; stores = Stores.ValueAndReference; memory = Keep; note = Note.Nothing }) ⌝ }
+    ensures { λ r. ⌜ r ≡ happenedIn (rowsOf Broadcast table) U0 cleared 10 ⌝ }
 {
     let sets = inviting(table);
     Decision::Take(Taken {
         next: State::U3,
-        actions: 1,
+        actions: action::INFORM,
         sends: Send::Nothing,
         stops: Timer::NoTimer,
         sets,
@@ -140,14 +138,14 @@ pub fn notified(table: Table) -> Decision
     })
 }
 
-// 3, join.
+// 3, join, in U3. Its row asks for nothing of the context.
 pub fn joined(table: Table) -> Decision
-    ensures { λ r. ⌜ r ≡ Take (record { next = U4; actions = 4; sends = Nothing; stops = inviting table; sets = ConnReq; stores = Stores.Nothing; memory = Keep; note = Note.Nothing }) ⌝ }
+    ensures { λ r. ⌜ r ≡ happenedIn (rowsOf Broadcast table) U3 cleared 3 ⌝ }
 {
     let stops = inviting(table);
     Decision::Take(Taken {
         next: State::U4,
-        actions: 4,
+        actions: action::REQUEST_GROUP_RECEIVE,
         sends: Send::Nothing,
         stops,
         sets: Timer::ConnReq,

@@ -6,6 +6,7 @@ pub mod words;
 
 ghost use Prim.Native.Nat.{_≤_};
 ghost use lib.ListN.{length};
+use codes::event;
 use codes::protocol::Protocol;
 use joined::Joined;
 use joined::join;
@@ -152,7 +153,7 @@ fn read_event(protocol: Protocol, line: &[u8], from: usize, time: u64, octets: &
     if log::carries_call(event as u32) {
         return read_value(line, word.next, told);
     }
-    if event == 18 {
+    if event == event::RECEIVED {
         return read_mode(line, word.next, told, octets);
     }
     finish(line, word.next, told)

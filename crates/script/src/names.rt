@@ -1,6 +1,7 @@
 // The names of the events, in the order of their numbers (document 01, "Events and steps"): 1 to 18 in every call, but that 10 says which call is notified; then 19,
 // the expiry of the invitation timer, in a broadcast call, and 32 to 36 in a group call.
 use crate::words::word_from;
+use codes::event;
 use codes::protocol::Protocol;
 use text::words::part;
 use text::words::same;
@@ -21,6 +22,9 @@ pub const BROADCAST_LAST: [u8; 14] = *b"t-pres-expired";
 pub const GROUP_LAST: [u8; 105] =
     *b"request-receive-mode request-talk transmit-mode-entered dedicated-mode-entered \
     delete-pending-termination";
+
+// The number before those of a group call.
+const BEFORE_GROUP: u8 = event::RECEIVE_MODE - 1;
 
 // The place of a word among others, counted from 1; 0 where it is none of them.
 fn place_among(names: &[u8], name: &[u8]) -> u8 {
@@ -55,12 +59,15 @@ fn number_behind(number: u8, names: &[u8], name: &[u8]) -> u8 {
 fn own_number(protocol: Protocol, name: &[u8]) -> u8 {
     match protocol {
         Protocol::Broadcast => {
-            let notified = number_behind(9, &BROADCAST_NOTIFIED, name);
-            or_else(notified, number_behind(18, &BROADCAST_LAST, name))
+            let notified = number_behind(event::ABORT_OR_RELEASE, &BROADCAST_NOTIFIED, name);
+            or_else(
+                notified,
+                number_behind(event::RECEIVED, &BROADCAST_LAST, name),
+            )
         }
         Protocol::Group => {
-            let notified = number_behind(9, &GROUP_NOTIFIED, name);
-            or_else(notified, number_behind(31, &GROUP_LAST, name))
+            let notified = number_behind(event::ABORT_OR_RELEASE, &GROUP_NOTIFIED, name);
+            or_else(notified, number_behind(BEFORE_GROUP, &GROUP_LAST, name))
         }
     }
 }
@@ -75,6 +82,6 @@ fn or_else(number: u8, other: u8) -> u8 {
 // The number of the event that a name names in a call of a protocol, 0 for none.
 pub(crate) fn event_named(protocol: Protocol, name: &[u8]) -> u8 {
     let before = number_behind(0, &BEFORE_NOTIFIED, name);
-    let behind = number_behind(10, &BEHIND_NOTIFIED, name);
+    let behind = number_behind(event::NOTIFIED, &BEHIND_NOTIFIED, name);
     or_else(or_else(before, behind), own_number(protocol, name))
 }

@@ -2,14 +2,10 @@
 // with the number of its first bad line, why, and settings that are all zero: no line is skipped, and no default stands in.
 ghost use mathlib.Core.Path.{_≡_};
 ghost use Rattle.settings.specs.Settings.{refusedAt, endOf, settingsOf};
+use codes::answer;
 use settings_line::Fault;
 use settings_line::Seen;
 use settings_values::Settings;
-
-// The answer numbers of document 01 that reading gives.
-pub const TAKEN: u8 = 0;
-
-pub const REFUSED: u8 = 12;
 
 // Answer 0 and the settings, line 0 and `Fine`; or answer 12, the number of the line, why, and settings that are all zero.
 pub struct ReadSettings {
@@ -24,7 +20,7 @@ fn refused(number: usize, fault: Fault) -> ReadSettings
     ensures { λ r. ⌜ r ≡ refusedAt number fault ⌝ }
 {
     ReadSettings {
-        answer: REFUSED,
+        answer: answer::SETTINGS_REFUSED,
         line: number,
         fault: fault,
         settings: Settings::NONE,
@@ -52,7 +48,7 @@ fn at_end(number: usize, seen: Seen) -> ReadSettings
     }
     let settings = seen.settings;
     ReadSettings {
-        answer: TAKEN,
+        answer: answer::TAKEN,
         line: 0,
         fault: Fault::Fine,
         settings: settings,

@@ -1,4 +1,5 @@
 // The command `settings OCTETS` of the probe: what reading a settings file comes to, in numbers.
+use codes::answer;
 use fields::malformed;
 use fields::words::octets_word;
 use saying::say;
@@ -31,7 +32,7 @@ pub fn answer_settings(
 fn say_reading(buffer: &mut [u8], output: Output, file: &[u8]) -> Output {
     let read = read_settings(file);
     let settings = read.settings;
-    if read.answer == settings::TAKEN {
+    if read.answer == answer::TAKEN {
         return say_settings(buffer, output, settings);
     }
     let answer = say(buffer, output, b"12 ");

@@ -2,6 +2,8 @@
 ghost use mathlib.Core.Path.{_≡_};
 ghost use Rattle.settings.specs.Settings.{settingsOf};
 ghost use Rattle.settings_numbers.specs.Configuring.{faultNumber, keptOctets, settingsShown};
+use codes::answer;
+use codes::wide;
 use settings_line::Fault;
 
 #[repr(C)]
@@ -44,7 +46,7 @@ pub fn read_file(file: &[u8], settings: &mut [u8; 21]) -> SettingsRead
     let why = read.fault;
     let values = read.settings;
     let fault = fault_number(why);
-    if read.answer != 0 {
+    if read.answer != answer::TAKEN {
         return SettingsRead {
             answer: read.answer as u32,
             fault,
@@ -55,7 +57,7 @@ pub fn read_file(file: &[u8], settings: &mut [u8; 21]) -> SettingsRead
     }
     settings_octets::write(values, settings);
     SettingsRead {
-        answer: 0,
+        answer: wide::answer::TAKEN,
         fault,
         line: read.line,
         joining: values.joining,

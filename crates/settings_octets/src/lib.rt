@@ -1,12 +1,12 @@
 // The settings as the twenty-one octets that a host in C keeps of them: 0 key number, 1 to 3 classmark, 4 length of the own identity,
 // 5 to 12 the identity, 13 to 16 the joining timer, 17 to 20 the invitation timer, each in milliseconds, low octet first.
 ghost use mathlib.Core.Path.{_≡_};
-ghost use Rattle.octets.specs.Little.{little};
 ghost use Prim.Native.Nat.{_+_, _≤_};
 ghost use Rattle.settings_octets.specs.Octets.{identityRun, lengthOctet, octetsOf, ownOf, runOf};
 use message::Classmark;
 use message::Own;
 use octets::Run;
+use octets::little;
 use settings_values::Settings;
 
 // What the octets say beside the identity.
@@ -54,18 +54,6 @@ fn length_octet(count: usize) -> u8
     255
 }
 
-// The four octets of a timer in milliseconds, the lowest first.
-fn timer_octets(milliseconds: u32) -> [u8; 4]
-    ensures { λ r. ⌜ r ≡ little milliseconds ⌝ }
-{
-    [
-        (milliseconds % 256) as u8,
-        (milliseconds / 256 % 256) as u8,
-        (milliseconds / 65536 % 256) as u8,
-        (milliseconds / 16777216 % 256) as u8,
-    ]
-}
-
 // Writes the twenty-one octets of settings.
 pub fn write(settings: Settings, octets: &mut [u8; 21])
     ensures { λ _. ⌜ now (octets .exit) ≡ octetsOf settings ⌝ }
@@ -73,8 +61,8 @@ pub fn write(settings: Settings, octets: &mut [u8; 21])
     let mark = settings.classmark;
     let own = settings.identity;
     let count = length_octet(settings.count);
-    let joining = timer_octets(settings.joining);
-    let invitation = timer_octets(settings.invitation);
+    let joining = little(settings.joining as u64);
+    let invitation = little(settings.invitation as u64);
     *octets = [
         settings.key,
         mark[0],

@@ -1,5 +1,6 @@
 // Settings files as the arguments of a word.
 use crate::tell_settings;
+use codes::answer;
 use filing::arguments::has_arguments;
 use filing::read_argument;
 use filing::read_file;
@@ -20,7 +21,13 @@ pub fn run_settings() -> u8 {
         return 2;
     }
     let count = filed.count;
-    tell_settings(part(&name, 0, length), part(&file, 0, count), filed.whole)
+    let read = read_settings(part(&file, 0, count));
+    tell_settings(
+        part(&name, 0, length),
+        part(&file, 0, count),
+        filed.whole,
+        read,
+    )
 }
 
 // The settings of a radio; or the verdict, 1 or 2, where there are none.
@@ -44,8 +51,13 @@ pub fn settings_argument(word: &[u8]) -> Fitted {
     let count = filed.count;
     let read = read_settings(part(&file, 0, count));
     let settings = read.settings;
-    if read.answer != 0 {
-        let verdict = tell_settings(part(&name, 0, length), part(&file, 0, count), filed.whole);
+    if read.answer != answer::TAKEN {
+        let verdict = tell_settings(
+            part(&name, 0, length),
+            part(&file, 0, count),
+            filed.whole,
+            read,
+        );
         return Fitted { verdict, settings };
     }
     Fitted {

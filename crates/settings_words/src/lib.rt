@@ -3,6 +3,7 @@ pub mod argument;
 mod fault;
 pub mod line;
 
+use codes::answer;
 use fault::tell_fault;
 use fault::tell_too_long;
 use libc::STDOUT_FILENO;
@@ -10,21 +11,20 @@ use saying::tell;
 use saying::tell_hex;
 use saying::tell_number;
 use saying::tell_place;
-use settings::read_settings;
+use settings::ReadSettings;
 use settings_line::Fault;
 use settings_values::Settings;
 use text::words::part;
 
-// Tells the settings that `file`, the bytes of the file at `path`, holds, and answers the verdict. `whole` is false where the file has
-// more bytes than these.
-pub fn tell_settings(path: &[u8], file: &[u8], whole: bool) -> u8 {
-    let read = read_settings(file);
+// Tells what was read of `file`, the bytes of the file at `path`, and answers the verdict. `whole` is false where the file has more bytes
+// than these.
+pub fn tell_settings(path: &[u8], file: &[u8], whole: bool, read: ReadSettings) -> u8 {
     let line = read.line;
     let fault = read.fault;
     let settings = read.settings;
     tell(path);
     if whole {
-        if read.answer == settings::TAKEN {
+        if read.answer == answer::TAKEN {
             return tell_read(settings);
         }
         return tell_fault(file, line, fault);

@@ -1,6 +1,8 @@
 // The tests of a step's arguments, whatever the context: the reply buffer, the length of a received message, and what is out of range.
 ghost use mathlib.Core.Path.{_≡_};
 ghost use Rattle.step_arguments.specs.Arguments.{settingsOut, outOfRange, argumentRefusal};
+use codes::answer;
+use codes::wide::event;
 
 // Whether settings are out of range: a key number over 7, an identity of 0 or over 8 octets.
 pub fn are_settings_out(key: u8, identity: usize) -> bool
@@ -14,8 +16,10 @@ fn is_out_of_range(known: bool, key: u8, identity: usize, number: u32, value: u8
     ensures { λ r. ⌜ r ≡ outOfRange known key identity number value mode ⌝ }
 {
     let settings = are_settings_out(key, identity);
-    let no_mode = (number == 18) & (1 < mode);
-    let no_value = ((number == 1) | ((number == 2) | (number == 10))) & (6 < value);
+    let no_mode = (number == event::RECEIVED) & (1 < mode);
+    let no_value = ((number == event::SET_UP)
+        | ((number == event::IMMEDIATE_SET_UP) | (number == event::NOTIFIED)))
+        & (6 < value);
     settings | (!known | (no_mode | no_value))
 }
 
@@ -34,13 +38,13 @@ pub fn argument_refusal(
     ensures { λ r. ⌜ r ≡ argumentRefusal known key identity number value mode octets room ⌝ }
 {
     if room < 255 {
-        return 5;
+        return answer::SHORT_BUFFER;
     }
-    if (number == 18) & (251 < octets) {
-        return 6;
+    if (number == event::RECEIVED) & (251 < octets) {
+        return answer::LONG_MESSAGE;
     }
     if is_out_of_range(known, key, identity, number, value, mode) {
-        return 4;
+        return answer::OUT_OF_RANGE;
     }
     0
 }

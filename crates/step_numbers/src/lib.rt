@@ -8,6 +8,7 @@ ghost use Rattle.context.specs.Context.{cleared};
 ghost use Rattle.radio.specs.Step.{shown, stepOf};
 ghost use Rattle.context_octets.specs.Octets.{octetsOf};
 ghost use Rattle.step_numbers.specs.Stepping.{Comes, callFrom, callOf, happenedOf, stepShown};
+use codes::wide::answer;
 use context::Context;
 use context_octets::Reading;
 use message::Own;
@@ -43,7 +44,7 @@ pub fn clear_context(context: &mut [u8; 16]) -> u32
     ensures { λ r. ⌜ (r ≡ 0) × (now (context .exit) ≡ octetsOf cleared) ⌝ }
 {
     context_octets::write(Context::cleared(), context);
-    0
+    answer::TAKEN
 }
 
 // An event as the step takes it.
@@ -141,7 +142,7 @@ pub fn take_step(
     match context_octets::read(context) {
         Reading::Is(from) => step_from(table, from, context, settings, event, message, reply),
         Reading::NoContext => Step {
-            answer: 7,
+            answer: answer::NO_CONTEXT,
             reason: 0,
             actions: 0,
             count: 0,

@@ -6,6 +6,7 @@ ghost use Rattle.call.specs.Talk.{noted, withValue, adopted, originating, await
 use call::Seen;
 use call::Sent;
 use codes::attributes::Parameters;
+use codes::event;
 use codes::state::State;
 use context::Chooser;
 use context::Context;
@@ -111,7 +112,7 @@ pub fn adopted(context: Context, seen: Seen) -> Context
     ensures { λ r. ⌜ r ≡ adopted context seen ⌝ }
 {
     let talk = context.talk;
-    if talk.awaiting & (seen.number == 18) {
+    if talk.awaiting & (seen.number == event::RECEIVED) {
         return with_value(seen.value, context);
     }
     context

@@ -7,6 +7,8 @@ use crate::place::Watch;
 use crate::place::has_two_actions;
 use crate::place::less;
 use crate::place::sum;
+use codes::action;
+use codes::event;
 use codes::protocol::Protocol;
 use drawing::begin_text;
 use drawing::end_text;
@@ -131,7 +133,7 @@ fn draw_asked(descriptor: i32, view: View, base: u64, before: Place, after: Plac
     end_text(descriptor);
     if has_two_actions(actions) {
         begin_text(descriptor, b"a", ASKED, sum(base, LINE));
-        write_actions(descriptor, 32);
+        write_actions(descriptor, action::TELL_MM_EXISTS);
         end_text(descriptor);
     }
 }
@@ -139,7 +141,7 @@ fn draw_asked(descriptor: i32, view: View, base: u64, before: Place, after: Plac
 // All but the sixth where that has a line of its own.
 fn first_actions(actions: u8) -> u8 {
     if has_two_actions(actions) {
-        return std::num::wrapping_sub_u8(actions, 32);
+        return std::num::wrapping_sub_u8(actions, action::TELL_MM_EXISTS);
     }
     actions
 }
@@ -178,7 +180,7 @@ fn draw_happened(
     end_text(descriptor);
     begin_text(descriptor, b"a", EVENT, base);
     write_event_name(descriptor, protocol, entry.event);
-    if entry.event == 18 {
+    if entry.event == event::RECEIVED {
         write_text(descriptor, b": ");
         write_message(descriptor, protocol, log, message);
     }

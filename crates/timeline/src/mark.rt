@@ -5,6 +5,8 @@ use crate::place::Place;
 use crate::place::View;
 use crate::place::less;
 use crate::place::sum;
+use codes::answer;
+use codes::event;
 use drawing::attribute;
 use drawing::begin_rectangle;
 use drawing::finish;
@@ -17,8 +19,8 @@ use log::Entry;
 // Filled: taken. Grey and square: reported to the network. Hollow: refused.
 fn begin_badge(descriptor: i32, answer: u8, x: u64, y: u64) {
     match answer {
-        0 => begin_rectangle(descriptor, b"taken", x, y, 28, 14),
-        2 => begin_rectangle(descriptor, b"told", x, y, 28, 14),
+        answer::TAKEN => begin_rectangle(descriptor, b"taken", x, y, 28, 14),
+        answer::REPORTED => begin_rectangle(descriptor, b"told", x, y, 28, 14),
         _ => begin_rectangle(descriptor, b"hollow", x, y, 28, 14),
     }
     round(descriptor, answer, 7);
@@ -27,15 +29,15 @@ fn begin_badge(descriptor: i32, answer: u8, x: u64, y: u64) {
 // A full dot has a white rim, so that it shows on a dark bar.
 fn begin_dot(descriptor: i32, answer: u8, x: u64, y: u64) {
     match answer {
-        0 => begin_rectangle(descriptor, b"taken dot", x, y, 8, 8),
-        2 => begin_rectangle(descriptor, b"told", x, y, 8, 8),
+        answer::TAKEN => begin_rectangle(descriptor, b"taken dot", x, y, 8, 8),
+        answer::REPORTED => begin_rectangle(descriptor, b"told", x, y, 8, 8),
         _ => begin_rectangle(descriptor, b"hollow", x, y, 8, 8),
     }
     round(descriptor, answer, 4);
 }
 
 fn round(descriptor: i32, answer: u8, radius: u64) {
-    if answer != 2 {
+    if answer != answer::REPORTED {
         attribute(descriptor, b" rx=\"", radius);
     }
 }
@@ -48,7 +50,7 @@ pub(crate) fn draw_number(descriptor: i32, answer: u8, x: u64, y: u64, entry: us
         b" data-entry=\"#\" data-time=\"#\"/>\n",
         &[entry as u64, time],
     );
-    if answer == 0 {
+    if answer == answer::TAKEN {
         number(descriptor, b"n w", x, sum(y, 11), entry as u64);
         return;
     }
@@ -63,7 +65,7 @@ fn draw_dot(descriptor: i32, answer: u8, x: u64, y: u64) {
 // From the number down to the entry's time, and on to its state; broken where it was not taken.
 fn draw_leader(descriptor: i32, view: View, answer: u8, y: u64, from: u64, x: u64, end: u64) {
     let bend = less(lane(view, y, 0), 4);
-    if answer == 0 {
+    if answer == answer::TAKEN {
         line(descriptor, b"lead", from, sum(y, 44), x, bend);
         line(descriptor, b"lead", x, bend, x, end);
         return;
@@ -74,7 +76,7 @@ fn draw_leader(descriptor: i32, view: View, answer: u8, y: u64, from: u64, x: u6
 
 // A full triangle that points down: a message came. An open one that points up: one was sent.
 fn draw_signs(descriptor: i32, y: u64, x: u64, event: u8, sent: bool) {
-    let received = event == 18;
+    let received = event == event::RECEIVED;
     if received & sent {
         draw_received(descriptor, less(x, 7), y);
         draw_sent(descriptor, sum(x, 7), y);

@@ -1,4 +1,7 @@
 // Where the walk through a log stands: what the log claims there, and where that is in the picture.
+use codes::action;
+use codes::answer;
+use codes::event;
 use fields::reply_messages::messages_of;
 use log::Claim;
 use log::Entry;
@@ -192,12 +195,15 @@ fn strip_of(delta: u64) -> u64 {
 // Whether an entry claims that an event was taken and led to a state from another.
 fn is_entered(state: u8, event: u8, before: u8, entry: Entry) -> bool {
     let claim = entry.claim;
-    (entry.event == event) & (claim.answer == 0) & (claim.state == state) & (before != state)
+    (entry.event == event)
+        & (claim.answer == answer::TAKEN)
+        & (claim.state == state)
+        & (before != state)
 }
 
 // The long sixth action has a line of its own where there are others.
 pub(crate) fn has_two_actions(actions: u8) -> bool {
-    (actions / 32 % 2 == 1) & (actions != 32)
+    (actions / action::TELL_MM_EXISTS % 2 == 1) & (actions != action::TELL_MM_EXISTS)
 }
 
 // The second message of a reply has one too, below the first.
@@ -233,10 +239,11 @@ pub(crate) fn onward(log: &[u8], view: View, place: Place, entry: Entry, at: usi
     let time = sum(place.time, delta);
     let drawn = along(view.scale, shown(place, delta));
     let x = sum(place.x, sum(drawn, strip_of(delta)));
-    let joins = is_entered(JOINING, 3, place.state, entry);
+    let joins = is_entered(JOINING, event::JOIN, place.state, entry);
     let joining = watched(place.joining, joins, claim.state == JOINING, time);
     let table = view.table;
-    let invites = is_entered(INVITED, 10, place.state, entry) & has_invitation_timer(table);
+    let invites = is_entered(INVITED, event::NOTIFIED, place.state, entry)
+        & has_invitation_timer(table);
     let invitation = watched(place.invitation, invites, claim.state == INVITED, time);
     Place {
         at,

@@ -20,6 +20,7 @@ use crate::place::onward;
 use crate::place::shown;
 use crate::place::smaller;
 use crate::place::sum;
+use codes::event;
 use log::Entry;
 use log::Found;
 use log::read_entry;
@@ -119,13 +120,13 @@ fn survey_entry(table: Table, log: &[u8], found: Survey, entry: Entry, at: usize
     let joining = narrowed(
         found.joining,
         place.joining,
-        expires(entry, 16, JOINING),
+        expires(entry, event::CONN_REQ_EXPIRED, JOINING),
         next,
     );
     let invitation = narrowed(
         found.invitation,
         place.invitation,
-        expires(entry, 19, INVITED),
+        expires(entry, event::PRES_EXPIRED, INVITED),
         next,
     );
     Survey {

@@ -1,6 +1,7 @@
 // The timers: which there are, and of each its number, its length and the event that is its expiry. Where a timer runs is no matter of this crate.
 ghost use mathlib.Core.Path.{_≡_};
 ghost use Rattle.timer.specs.Timers.{timerNumber, runningAmong, expiryOf, lengthOf, withTimer};
+use codes::wide::event;
 
 // A timer, or none of them.
 pub enum Timer {
@@ -85,11 +86,11 @@ pub fn expired_timer(event: u32) -> u8
     ensures { λ r. ⌜ r ≡ expiryOf event ⌝ }
 {
     match event {
-        14 => timer_number(Timer::MmEst),
-        15 => timer_number(Timer::Term),
-        16 => timer_number(Timer::ConnReq),
-        17 => timer_number(Timer::NoChannel),
-        19 => timer_number(Timer::Pres),
+        event::MM_EST_EXPIRED => timer_number(Timer::MmEst),
+        event::TERM_EXPIRED => timer_number(Timer::Term),
+        event::CONN_REQ_EXPIRED => timer_number(Timer::ConnReq),
+        event::NO_CHANNEL_EXPIRED => timer_number(Timer::NoChannel),
+        event::PRES_EXPIRED => timer_number(Timer::Pres),
         _ => 0,
     }
 }

@@ -1,4 +1,4 @@
-// What the step table says of an event in a context. The table itself stands in specs/Table; the code that follows it is in message_rows and event_rows.
+// What the step table says of an event in a context. The table itself stands in specs/Table; the code that follows it is in message_rows, event_rows and group_rows.
 use codes::state::State;
 use timer::Timer;
 

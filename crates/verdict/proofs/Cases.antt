@@ -2,7 +2,7 @@
 use Prim.Native.Nat.{ℕ}
 use mathlib.Core.Path.{_≡_, refl}
 use mathlib.Core.List.{List, [], _∷_, _++_}
-use Rattle.codes.specs.Attributes.{weighs}
+use Rattle.codes.specs.Attributes.{parametersNumber, weighs}
 use Rattle.context.specs.Remembered.{remembering, returning}
 use Rattle.context.specs.Context.{startRow, setRow, entering, cleared}
 use Rattle.fitness.specs.Fitness.{consistentBy, timersFitBy, rememberedFitBy, chooserFitBy, pendingFitBy, talkFitBy, isCleared, fitBy}
@@ -19,16 +19,16 @@ use Rattle.received.specs.Received.{sameOctets}
 use Rattle.received.specs.Due.{dueOf}
 use Rattle.step_arguments.specs.Arguments.{settingsOut, outOfRange, argumentRefusal}
 use Rattle.radio.specs.Step.{eventOf, toldDue, dueTo, reactedTo, fitnessRefusal, refusalOf, stepOf}
-use Rattle.log_number.specs.Number.{joined, groupsAt, numberAt, upTo}
+use Rattle.septets.specs.Number.{joined, groupsAt, numberAt, upTo}
 use Rattle.log_data.specs.Reading.{carriesCall, callAt, receivedAt, dataAt}
 use Rattle.version.specs.Version.{tableOf, hasEvent, greatestState, greatestActions, protocolOf}
 use Rattle.log_field.specs.Reading.{smallAt, runAt}
 use Rattle.log_claim.specs.Reading.{claimAt}
 use Rattle.log.specs.Reading.{restAt, entryAt}
-use Rattle.table.specs.Judge.{narrow, turn, judgeFrom, judge}
-use Rattle.table.specs.Reading.{entriesIn, entries}
-use Rattle.table.specs.TwoTimers.{judgeTwo}
-use Rattle.verdict.specs.Table.{tellsInvitation, parametersNumber, agree}
+use Rattle.judge_laws.specs.Judge.{narrow, turn, judgeFrom, judge}
+use Rattle.judge_laws.specs.Reading.{entriesIn, entries}
+use Rattle.judge_laws.specs.TwoTimers.{judgeTwo}
+use Rattle.verdict.specs.Table.{tellsInvitation, agree}
 use Rattle.verdict.specs.Judge.{invitationTold, versionJudged, judgeOf, answerNumber, answerValues}
 
 -- Settings in range; none of these logs asks for what they are.

@@ -12,18 +12,18 @@ use lib.Seq.{drop-drop}
 use borrow.Author.Tests.{leb-true}
 use Rattle.version.specs.declared.Table.{Table}
 use Rattle.message.specs.declared.Own.{Own}
-use Rattle.log_number.specs.Number.{grouped, numberAt}
-use Rattle.log_number.specs.declared.Number.the-variants.{Value}
-use Rattle.log_number.proofs.Meaning.{Octets, Shortest, Exact, number-exact}
+use Rattle.septets.specs.Number.{grouped, numberAt}
+use Rattle.septets.specs.declared.Number.the-variants.{Value}
+use Rattle.septets.proofs.Meaning.{Octets, Shortest, Exact, number-exact}
 use Rattle.log.specs.Layout.{Meant, written, ranged, versionBytes, entries as layout, whole}
 use Rattle.log.specs.Reading.{entryAt, meant}
 use Rattle.log.specs.declared.Found.{Found}
 use Rattle.log.specs.declared.Found.the-variants.{Read, Unreadable}
 use Rattle.log.proofs.Exact.{EntryExact, entry-exact}
-use Rattle.table.specs.Log.{Log, done, torn, WellFormed, Entry}
-use Rattle.table.specs.Reading.{onRead, entriesIn, entries, written as writtenBy}
-use Rattle.table.proofs.Reading.{entries-written}
-use Rattle.table.proofs.Complete.{as-log-well-formed}
+use Rattle.judge_laws.specs.Log.{Log, done, torn, WellFormed, Entry}
+use Rattle.judge_laws.specs.Reading.{onRead, entriesIn, entries, written as writtenBy}
+use Rattle.judge_laws.proofs.Reading.{entries-written}
+use Rattle.judge_laws.proofs.Complete.{as-log-well-formed}
 use Rattle.verdict.specs.Table.{steps}
 use Rattle.verdict.specs.Entries.{entryMeant, meantBy, readOf, reader, writer}
 use Rattle.verdict.specs.Formed.{Readable, AllInRange, Laid}

@@ -3,7 +3,7 @@
 use Prim.Native.Nat.{ℕ}
 use mathlib.Core.Path.{_≡_, refl}
 use mathlib.Core.List.{List, [], _∷_}
-use Rattle.codes.specs.Attributes.{parametersOf, weighs, attributesOf}
+use Rattle.codes.specs.Attributes.{parametersOf, weighs, attributesOf, parametersNumber}
 use Rattle.codes.specs.CallStates.{callStateOf, callStateCode}
 use Rattle.codes.specs.Protocol.{discriminator}
 use Rattle.element.specs.Counted.{countedAt}
@@ -29,16 +29,16 @@ use Rattle.received.specs.Received.{transactionIs, awaitedIs, transactionFits, 
 use Rattle.step_arguments.specs.Arguments.{settingsOut, outOfRange, argumentRefusal}
 use Rattle.radio.specs.Step.{eventOf, toldDue, dueTo, reactedTo, fitnessRefusal, refusalOf, stepOf, takenOf}
 use Rattle.version.specs.Version.{versionOf, tableOf, hasEvent, greatestState, greatestActions, protocolOf}
-use Rattle.log_number.specs.Number.{groups, grouped, joined, groupsAt, numberAt, upTo}
+use Rattle.septets.specs.Number.{groups, grouped, joined, groupsAt, numberAt, upTo}
 use Rattle.log_field.specs.Reading.{smallAt, runAt}
 use Rattle.log_data.specs.Reading.{carriesCall, callAt, receivedAt, dataAt}
 use Rattle.log_claim.specs.Reading.{claimAt}
 use Rattle.log.specs.Reading.{restAt, entryAt}
-use Rattle.table.specs.Judge.{narrow, turn, judgeFrom, judge}
-use Rattle.table.specs.Reading.{entriesIn, entries}
-use Rattle.table.specs.TwoTimers.{judgeTwo}
+use Rattle.judge_laws.specs.Judge.{narrow, turn, judgeFrom, judge}
+use Rattle.judge_laws.specs.Reading.{entriesIn, entries}
+use Rattle.judge_laws.specs.TwoTimers.{judgeTwo}
 use Rattle.message.specs.declared.Own.{Own}
-use Rattle.verdict.specs.Table.{parametersNumber, agree, tellsInvitation}
+use Rattle.verdict.specs.Table.{agree, tellsInvitation}
 use Rattle.verdict.specs.Judge.{invitationTold, versionJudged, judgeOf, answerNumber, answerValues}
 
 abbrev own : Own

@@ -24,14 +24,14 @@ use Rattle.message.specs.declared.Own.{Own}
 use Rattle.version.specs.declared.Table.{Table}
 use Rattle.version.specs.declared.Table.the-variants.{First, Second, Third, Group}
 use Rattle.version.specs.Version.{protocolOf}
-use Rattle.table.specs.Log.{WellFormed}
-use Rattle.table.specs.Timers.{Interval, Within}
-use Rattle.table.specs.Verdict.{Verdict, accepted, unreadable, unexplained, IsAccepted}
-use Rattle.table.specs.Judge.{judge}
-use Rattle.table.specs.TwoTimers.{InRange, ExplainedBy, Tells}
-use Rattle.table.specs.NeverRuns.{NeverRuns, firstAlone, alone}
-use Rattle.table.proofs.Complete.{accepted-exactly}
-use Rattle.table.proofs.NeverRuns.{first-alone, first-alone-laws, judge-alone}
+use Rattle.judge_laws.specs.Log.{WellFormed}
+use Rattle.judge_laws.specs.Timers.{Interval, Within}
+use Rattle.judge_laws.specs.Verdict.{Verdict, accepted, unreadable, unexplained, IsAccepted}
+use Rattle.judge_laws.specs.Judge.{judge}
+use Rattle.judge_laws.specs.TwoTimers.{InRange, ExplainedBy, Tells}
+use Rattle.judge_laws.specs.NeverRuns.{NeverRuns, firstAlone, alone}
+use Rattle.judge_laws.proofs.Complete.{accepted-exactly}
+use Rattle.judge_laws.proofs.NeverRuns.{first-alone, first-alone-laws, judge-alone}
 use Rattle.verdict.specs.declared.Invitation.the-variants.{Untold}
 use Rattle.verdict.specs.declared.Judged.{Judged}
 use Rattle.verdict.specs.declared.Judged.the-variants.{Accepted, Unreadable, Unexplained, TooLong, OutOfRange}

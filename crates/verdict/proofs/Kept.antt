@@ -14,10 +14,10 @@ use Rattle.step_arguments.specs.Arguments.{argumentRefusal}
 use Rattle.radio.specs.Step.{refusalOf, Reaction, stepOf}
 use Rattle.radio.proofs.Answers.{step-honest, step-keeps-fit}
 use Rattle.version.specs.declared.Table.{Table}
-use Rattle.table.specs.Log.{Log, Entry, begin}
-use Rattle.table.specs.Points.{momentAfter}
-use Rattle.table.specs.Recorded.{Still}
-use Rattle.table.proofs.Points.{always}
+use Rattle.judge_laws.specs.Log.{Log, Entry, begin}
+use Rattle.judge_laws.specs.Points.{momentAfter}
+use Rattle.judge_laws.specs.Recorded.{Still}
+use Rattle.judge_laws.proofs.Points.{always}
 use Rattle.verdict.specs.Table.{GivenEvent, stepped, steps, recordable}
 
 -- A step that is handed a longer reply buffer is the same step.

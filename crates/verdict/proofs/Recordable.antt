@@ -11,7 +11,7 @@ use borrow.Author.Tests.{leb-true, ltb-false, eqb-true, eqb-false, le-leb, le-lt
 use Rattle.octets.proofs.Choice.{at-cond}
 use Rattle.codes.specs.declared.state.State.{State}
 use Rattle.codes.specs.declared.attributes.Parameters.{Parameters}
-use Rattle.codes.specs.Attributes.{weighs}
+use Rattle.codes.specs.Attributes.{parametersNumber, weighs}
 use Rattle.context.specs.declared.Context.{Context}
 use Rattle.context.specs.States.{numberOf, among}
 use Rattle.context.proofs.Whole.{if-so, inStates, at-state}
@@ -31,9 +31,9 @@ use Rattle.log.specs.Layout.{Field, number, eventNumber, octets, allInRange, da
 use Rattle.recorder.specs.Recording.{added, recordAnswer, answerNumber}
 use Rattle.recorder.specs.declared.Recorded.{Recorded}
 use Rattle.recorder.specs.declared.Recorded.the-variants.{Used, OutOfRange, TooLong, NoRoom}
-use Rattle.table.specs.Log.{Entry}
-use Rattle.table.specs.Recorded.{Move, entryOf}
-use Rattle.verdict.specs.Table.{GivenEvent, parametersNumber, claimOf, stepped, steps, recordable}
+use Rattle.judge_laws.specs.Log.{Entry}
+use Rattle.judge_laws.specs.Recorded.{Move, entryOf}
+use Rattle.verdict.specs.Table.{GivenEvent, claimOf, stepped, steps, recordable}
 use Rattle.verdict.specs.Entries.{meantBy}
 
 -- ---- fields in range

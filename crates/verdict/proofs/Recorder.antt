@@ -16,24 +16,24 @@ use Rattle.version.specs.declared.Table.the-variants.{First, Second, Third, Gro
 use Rattle.version.specs.Version.{versionOf, tableOf, longest}
 use Rattle.version.proofs.Back.{table-number}
 use Rattle.version.proofs.Tables.{number-small}
-use Rattle.log_number.specs.Number.{grouped, groups, groupsAt, joined, numberAt}
-use Rattle.log_number.specs.declared.Number.the-variants.{Value}
-use Rattle.log_number.proofs.Meaning.{number-reads}
+use Rattle.septets.specs.Number.{grouped, groups, groupsAt, joined, numberAt}
+use Rattle.septets.specs.declared.Number.the-variants.{Value}
+use Rattle.septets.proofs.Meaning.{number-reads}
 use Rattle.log_data.specs.Reading.{carriesCall}
 use Rattle.log.specs.Layout.{Meant, ranged, kept, versionBytes, entries as layout, whole}
 use Rattle.log.proofs.ReadBack.{kept-written, kept-ranged}
 use Rattle.recorder.specs.Recording.{Records, Begins as LogBegins, soFar}
 use Rattle.recorder.specs.declared.Recorded.the-variants.{Used}
 use Rattle.recorder.proofs.Growth.{grown, length-kept, log-grows, whole-grows, begun-log}
-use Rattle.table.specs.Steps.{Steps}
-use Rattle.table.specs.Log.{Entry, Moment, begin, next, Explains}
-use Rattle.table.specs.Timers.{Interval, Within}
-use Rattle.table.specs.Judge.{judge, judgeFrom}
-use Rattle.table.specs.Reading.{asLog, entries, entriesIn, written as writtenBy, AllFine}
-use Rattle.table.specs.TwoTimers.{twoTimers, lengthsWith, BothInRange, range, told, judgeTwo}
-use Rattle.table.specs.Recorded.{Move, entryOf, recorded, MadeInTime}
-use Rattle.table.proofs.TwoTimers.{two-timers-laws}
-use Rattle.table.proofs.Complete.{recorded-explained, written-accepted}
+use Rattle.judge_laws.specs.Steps.{Steps}
+use Rattle.judge_laws.specs.Log.{Entry, Moment, begin, next, Explains}
+use Rattle.judge_laws.specs.Timers.{Interval, Within}
+use Rattle.judge_laws.specs.Judge.{judge, judgeFrom}
+use Rattle.judge_laws.specs.Reading.{asLog, entries, entriesIn, written as writtenBy, AllFine}
+use Rattle.judge_laws.specs.TwoTimers.{twoTimers, lengthsWith, BothInRange, range, told, judgeTwo}
+use Rattle.judge_laws.specs.Recorded.{Move, entryOf, recorded, MadeInTime}
+use Rattle.judge_laws.proofs.TwoTimers.{two-timers-laws}
+use Rattle.judge_laws.proofs.Complete.{recorded-explained, written-accepted}
 use Rattle.verdict.specs.declared.Judged.the-variants.{Accepted}
 use Rattle.verdict.specs.Table.{steps, joining, invitation, unknowns, recordable}
 use Rattle.verdict.specs.Entries.{carriedBy, meantBy, carriedEntry, writer}

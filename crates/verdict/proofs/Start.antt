@@ -19,10 +19,10 @@ use Rattle.message.specs.declared.Own.{Own}
 use Rattle.radio.specs.Step.{dueTo, reactedTo, refusalOf, reacted, refused, stepOf}
 use Rattle.version.specs.declared.Table.{Table}
 use Rattle.version.specs.Version.{greatestActions, protocolOf}
-use Rattle.table.specs.Log.{Log, Entry, Moment, begin, timerAfter, timeOf, next}
-use Rattle.table.specs.Points.{momentAfter}
-use Rattle.table.specs.Start.{NoneAnew}
-use Rattle.table.proofs.Start.{started-by-row}
+use Rattle.judge_laws.specs.Log.{Log, Entry, Moment, begin, timerAfter, timeOf, next}
+use Rattle.judge_laws.specs.Points.{momentAfter}
+use Rattle.judge_laws.specs.Start.{NoneAnew}
+use Rattle.judge_laws.proofs.Start.{started-by-row}
 use Rattle.verdict.specs.Table.{GivenEvent, stepped, steps}
 use Rattle.verdict.specs.Start.{setsTimer}
 use Rattle.verdict.proofs.Kept.{always-fit}

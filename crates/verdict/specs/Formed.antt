@@ -6,10 +6,10 @@ use mathlib.Core.List.{List, [], _∷_}
 use Rattle.version.specs.declared.Table.{Table}
 use Rattle.version.specs.Version.{versionOf}
 use Rattle.message.specs.declared.Own.{Own}
-use Rattle.log_number.specs.Number.{numberAt}
-use Rattle.log_number.specs.declared.Number.the-variants.{Value}
+use Rattle.septets.specs.Number.{numberAt}
+use Rattle.septets.specs.declared.Number.the-variants.{Value}
 use Rattle.log.specs.Layout.{Meant, ranged, whole}
-use Rattle.table.specs.Log.{WellFormed}
+use Rattle.judge_laws.specs.Log.{WellFormed}
 use Rattle.verdict.specs.Judge.{entriesAt}
 
 -- As it is read: the version stands first, and every entry behind it can be read.

@@ -8,7 +8,7 @@ use Rattle.message.specs.declared.Own.{Own}
 use Rattle.version.specs.declared.Table.{Table}
 use Rattle.recorder.specs.Recording.{Records}
 use Rattle.recorder.specs.declared.Recorded.the-variants.{Used}
-use Rattle.table.specs.Recorded.{Move, entryOf}
+use Rattle.judge_laws.specs.Recorded.{Move, entryOf}
 use Rattle.verdict.specs.Table.{steps, recordable}
 use Rattle.verdict.specs.Entries.{meantBy}
 

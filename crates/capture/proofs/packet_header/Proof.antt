@@ -1,4 +1,4 @@
--- `packet_header` meets its contract: each octet is the one of the definition.
+-- `packet_header` meets its contract: each of its octets is one of the four of a number.
 use borrow.Author.Needs.{needs}
 use Rattle.capture.specs.Capture.{packetHeader}
 use Rattle.capture.proofs.packet_header.Statement.{statement}
@@ -9,6 +9,10 @@ unfolding packetHeader
 packet-header-spec =
     tie.close
     (tie.spec
+    (λ c κs. search needs)
+    (λ c. search needs)
+    (λ c κs. search needs)
+    (λ c κs. search needs)
     (λ c. search needs)
     (λ c. search needs)
     (λ c. search needs)
@@ -25,5 +29,4 @@ packet-header-spec =
     (λ c. search needs)
     (λ c. search needs)
     (λ c. search needs)
-    (λ c. search needs)
-    (λ c. search needs))
+    (λ c. rw (c .before .before .little .ensures, c .before .little2 .ensures, c .little3 .ensures)))

@@ -23,4 +23,4 @@ write-spec =
     let timers = noted .before in
     let parameters = timers .before in
     let state = parameters .before in
-    rw (talks .talk-number .ensures, noted .remembered-number .ensures, timers .timers-number .ensures, parameters .four-number .ensures, state .state-number .ensures)))
+    rw (talks .talk-number .ensures, noted .remembered-number .ensures, timers .timers-number .ensures, parameters .parameters-number .ensures, state .state-number .ensures)))

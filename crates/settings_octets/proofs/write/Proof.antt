@@ -10,7 +10,9 @@ write-spec =
     tie.close
     (tie.spec
     (λ c κs. search needs)
+    (λ c. search needs)
     (λ c κs. search needs)
+    (λ c. search needs)
     (λ c κs. search needs)
     (λ c. search needs)
     (λ c. search needs)
@@ -32,4 +34,4 @@ write-spec =
     (λ c. search needs)
     (λ c. search needs)
     (λ c.
-    rw (← c .before .before .before .length-octet .ensures, c .before .before .timer-octets .ensures, c .before .timer-octets2 .ensures)))
+    rw (← c .before .before .before .before .before .length-octet .ensures, c .before .before .before .little .ensures, c .before .little2 .ensures)))
