@@ -64,10 +64,10 @@ prove_program() {
 }
 
 # plan_for CRATE: a line for the crate and for each that it stands on, with what that stands on here; those first from which the way up is longest. A crate's part of a way is the length of
-# its code and proofs, since the time that a proof takes grows with it.
+# its code, by which the time of its proof goes: 4 to 8 seconds for a thousand characters.
 plan_for() {
     for crate in $(crates_of "$1"); do
-        echo "$crate $(find "$here/crates/$crate/src" "$here/crates/$crate/proofs" -type f -exec cat {} + 2>/dev/null | wc -c)"
+        echo "$crate $(find "$here/crates/$crate/src" -type f -exec cat {} + | wc -c)"
     done | awk -F'[: ]+' '
         NR == FNR { size[$1] = $2; next }
         /^#/ || !($1 in size) { next }
