@@ -37,87 +37,98 @@ find_emulator() {
     for word in $(env | sed -n 's/^\(QEMU_[A-Za-z0-9_]*\)=.*/\1/p'); do unset "$word"; done
 }
 
-# strand_of CRATE NUMBER: the crates of a program's first or second strand, from a line '# strands: CRATE: FIRST.. | SECOND..' of crates.txt; nothing where there is none.
-strand_of() {
-    sed -n "s/^# strands: $1: //p" "$here/crates.txt" | cut -d'|' -f"$2"
-}
-
-# shared_by CRATES : CRATES: what both stand on.
-shared_by() {
-    { each_of "$1"; each_of "$2"; } | sort | uniq -d
-}
-
-# each_of CRATES: all that they stand on, and themselves, each once.
-each_of() {
-    for strand in $1; do crates_of "$strand"; done | sort -u
-}
-
-# prove_in_strands CRATE: proves a program and what it stands on. rt goes level by level and waits for the slowest crate of each, and the long chain of the step and the judge would leave
-# a processor idle; so what the program's two strands share is proved first, then both strands at once, and the program last. rt looks at what is proved before it
-# proves, and keeps a word for each crate meanwhile, in which two of them must not meet: hence the pause. The last call gives the verdict on all of it.
-prove_in_strands() {
-    one='' two='' first=$(strand_of "$1" 1) second=$(strand_of "$1" 2)
-    trap 'kill $one $two 2>/dev/null; exit 2' HUP INT TERM
-    if [ -n "$second" ]; then
-        # shellcheck disable=SC2046
-        set -- "$1" $(shared_by "$first" "$second")
-        [ $# -eq 1 ] || prove_one "$@"
-        # shellcheck disable=SC2086
-        rt check $first & one=$!
-        sleep 5
-        # shellcheck disable=SC2086
-        rt check $second & two=$!
-        wait "$two"
-        wait "$one"
-    fi
-    prove_one "$1" "$1"
-}
-
-# prove_one PROGRAM CRATE..: proves these; killed with what waits for it.
-prove_one() {
-    shift
-    rt check "$@" & one=$!
-    wait "$one"
-}
-
-# prove_program CRATE: proves and builds a program and what it stands on. What the prover says goes to a file, whose name is left in `log`; standard error has one
-# line that moves on where it is a terminal, and else a line for each step.
+# prove_program CRATE: proves and builds a program and what it stands on. rt takes crates level by level and waits for the slowest of each, which leaves processors idle; so it is asked for
+# one crate at a time here, each as soon as what it stands on is proved.
+# What rt says goes to a file, whose name is left in `log`; standard error has one line that moves on where it is a terminal, and else a line for each step.
 prove_program() {
     mkdir -p "$here/target/log"
     log=$here/target/$1.log
-    wanted=$(crates_of "$1")
-    # Below target/log rt keeps a word for each crate: `failed` from when it is begun, and another when it is proved.
-    for crate in $wanted; do rm -f "$here/target/log/$crate.res"; done
-    began=$(date +%s)
-    # rt waits for all that it started at once: more than one for each processor leaves none idle meanwhile.
-    (cd "$here" && export RT_JOBS="${RT_JOBS:-$((3 * $(nproc 2>/dev/null || echo 1)))}" && prove_in_strands "$1") >"$log" 2>&1 &
-    prover=$!
-    trap 'kill "$prover" 2>/dev/null; exit 2' HUP INT TERM
-    while kill -0 "$prover" 2>/dev/null; do
+    : >"$log"
+    plan=$(plan_for "$1")
+    of=$(echo "$plan" | wc -l)
+    # One more than there are processors: rt looks at what is proved before it proves, and the next one does so meanwhile.
+    most=${RT_JOBS:-$(($(nproc 2>/dev/null || echo 1) + 1))}
+    began=$(date +%s) ended=0 running='' begun='' proved='' newest=''
+    trap 'for job in $running; do kill "${job#*:}"; done 2>/dev/null; exit 2' HUP INT TERM
+    start_next
+    while [ -n "$running" ]; do
         tell_progress
-        sleep 1
+        sleep 0.2
+        take_ended
+        [ "$ended" -ne 0 ] || start_next
     done
     trap - HUP INT TERM
-    wait "$prover"
-    ended=$?
     tell_progress
     [ ! -t 2 ] || echo >&2
     return "$ended"
 }
 
-# tell_progress: how many of the `wanted` crates are proved, which are on, and since when.
-tell_progress() {
-    of=0 proved=0 on=
-    for crate in $wanted; do
-        of=$((of + 1))
-        word=
-        { read -r word <"$here/target/log/$crate.res"; } 2>/dev/null
-        case $word in
-        proved | built) proved=$((proved + 1)) ;;
-        failed) on="$on $crate" ;;
-        esac
+# plan_for CRATE: a line for the crate and for each that it stands on, with what that stands on here; those first from which the way up is longest. A crate's part of a way is the length of
+# its code, by which the time of its proof goes: 4 to 8 seconds for a thousand characters.
+plan_for() {
+    for crate in $(crates_of "$1"); do
+        echo "$crate $(find "$here/crates/$crate/src" -type f -exec cat {} + | wc -c)"
+    done | awk -F'[: ]+' '
+        NR == FNR { size[$1] = $2; next }
+        /^#/ || !($1 in size) { next }
+        { for (i = 2; i <= NF; i++) if ($i in size) { under[$1] = under[$1] " " $i; above[$i] = above[$i] " " $1 } }
+        function way(name, list, n, i, most) {
+            if (name in found) return found[name]
+            n = split(above[name], list, " ")
+            for (i = 1; i <= n; i++) if (way(list[i]) > most) most = way(list[i])
+            return found[name] = size[name] + most
+        }
+        END { for (name in size) print way(name), name under[name] }' - "$here/crates.txt" | sort -k 1,1nr | cut -d' ' -f2-
+}
+
+# start_next: where there is room, starts the first crate of the plan that stands on proved ones alone. rt keeps a word for each crate that it looks at, in which two of them must not meet:
+# so the next one waits until the last one has seen all that its crate stands on, and left the word for that.
+start_next() {
+    # shellcheck disable=SC2086
+    set -- $running
+    [ $# -lt "$most" ] || return 0
+    [ $# -eq 0 ] || [ -e "$here/target/log/$newest.res" ] || return 0
+    while read -r crate under; do
+        case " $begun " in *" $crate "*) continue ;; esac
+        # shellcheck disable=SC2086
+        are_proved $under || continue
+        rm -f "$here/target/log/$crate.res"
+        (cd "$here" && exec rt check "$crate") >"$here/target/log/$crate.told" 2>&1 &
+        running="$running $crate:$!" begun="$begun $crate" newest=$crate
+        return 0
+    done <<END
+$plan
+END
+}
+
+are_proved() {
+    for under in "$@"; do
+        case " $proved " in *" $under "*) ;; *) return 1 ;; esac
     done
-    line="heidezirkel: $proved of $of crates proved${on:+, now$on}"
+}
+
+# take_ended: takes those that have ended out of the running ones; behind one that was not proved nothing more is begun.
+take_ended() {
+    left=
+    for job in $running; do
+        crate=${job%:*}
+        if kill -0 "${job#*:}" 2>/dev/null; then
+            left="$left $job"
+            continue
+        fi
+        if wait "${job#*:}"; then proved="$proved $crate"; else ended=1; fi
+        cat "$here/target/log/$crate.told" >>"$log"
+    done
+    running=$left
+}
+
+# tell_progress: how many of the crates are proved, which are on, and since when.
+tell_progress() {
+    on=
+    for job in $running; do on="$on ${job%:*}"; done
+    # shellcheck disable=SC2086
+    set -- $proved
+    line="heidezirkel: $# of $of crates proved${on:+, now$on}"
     since=$(($(date +%s) - began))
     if [ -t 2 ]; then
         # 76 characters and then clear to the end of the line: it must not break

@@ -1,4 +1,4 @@
-// heidezirkel: the program that people run over the proved libraries. Its first argument is a word; bin/heidezirkel has the words `record`, `pcap`, `timeline` and `probe` done
+// heidezirkel: the program that people run over the proved libraries. Its first argument is a word; bin/heidezirkel has the words `record`, `ignored`, `pcap`, `timeline` and `probe` done
 // by programs of their own (recordings, pictures, probe), so that none waits until what only another needs is proved.
 // A program has no exit status, so the last line on standard output is its verdict: `verdict 0` fine, `verdict 1` refused,
 // `verdict 2` could not run. bin/heidezirkel turns it into the exit status. What concerns misuse goes to standard error.
@@ -10,7 +10,6 @@ use help_words::complain_help;
 use help_words::complain_unknown;
 use help_words::tell_help;
 use help_words::tell_word_help;
-use ignored_words::run_ignored;
 use judge_words::run_judge;
 use log_words::show::run_show;
 use message_words::tell_apart;
@@ -64,9 +63,6 @@ fn run(word: &[u8]) -> u8 {
     }
     if same(word, b"judge") {
         return run_judge();
-    }
-    if same(word, b"ignored") {
-        return run_ignored();
     }
     if same(word, b"show") {
         return run_show();

@@ -1,10 +1,13 @@
-// recordings: the program behind the word `record`, which makes a log from a script of events.
+// recordings: the program behind the words `record`, which makes a log from a script of events, and `ignored`, which lists the messages of a log that the radio ignored, as `record` does too.
 // Its last line on standard output is its verdict, as the other programs' is.
 use filing::arguments::has_arguments;
+use ignored_words::run_ignored;
+use saying::complain;
 use saying::tell_verdict;
 use settings_values::Settings;
 use settings_words::argument::settings_argument;
 use text::words::part;
+use text::words::same;
 
 fn run_record() -> u8 {
     if !has_arguments(
@@ -31,6 +34,19 @@ fn record_log(settings: Settings) -> u8 {
     record_words::run(settings, part(&script, 0, length), part(&log, 0, count))
 }
 
+fn run(word: &[u8]) -> u8 {
+    if same(word, b"record") {
+        return run_record();
+    }
+    if same(word, b"ignored") {
+        return run_ignored();
+    }
+    complain(b"recordings: its words are record and ignored\n");
+    2
+}
+
 fn main() {
-    tell_verdict(run_record());
+    let mut argument = io::buffer();
+    let count = os::arg(1, &mut argument);
+    tell_verdict(run(part(&argument, 0, count)));
 }
