@@ -8,7 +8,11 @@ pub mod arguments;
 
 use saying::complain;
 use text::words::part;
+use saying::shown::complain_name;
+use text::output::Output;
+use text::output::put;
 
+use text::words::same;
 // Whether the file could be read, how many bytes of it the buffer holds now, and whether that is the whole file. Where it could
 // not be read, there are none.
 pub struct Filed {
@@ -17,11 +21,11 @@ pub struct Filed {
     pub whole: bool,
 }
 
-// Reads the file from its start, as much as the buffer holds. `word` is the program's word that wants it, as in `heidezirkel show`.
+// Reads the file from its start, as much as the buffer holds; `-` is standard input. `word` is the program's word that wants it, as in `heidezirkel show`.
 pub fn read_file(word: &[u8], path: &[u8], buffer: &mut [u8]) -> Filed
     ensures { λ r. ⌜ r .count ≤ length (now (buffer .exit)) ⌝ }
 {
-    let descriptor = os::open_read(path);
+    let descriptor = open_file(path);
     if descriptor < 0 {
         complain_of(word, path, os::errno());
         return Filed {
@@ -34,11 +38,20 @@ pub fn read_file(word: &[u8], path: &[u8], buffer: &mut [u8]) -> Filed
     if !filed.good {
         complain_of(word, path, os::errno());
     }
-    libc::close(descriptor);
+    if descriptor != libc::STDIN_FILENO {
+        libc::close(descriptor);
+    }
     filed
 }
 
 // Reads the file that an argument of the word names.
+fn open_file(path: &[u8]) -> i32 {
+    if same(path, b"-") {
+        return libc::STDIN_FILENO;
+    }
+    os::open_read(path)
+}
+
 pub fn read_argument(word: &[u8], place: usize, buffer: &mut [u8]) -> Filed {
     let mut name = io::buffer();
     let count = os::arg(place, &mut name);
@@ -114,17 +127,18 @@ fn complain_of(word: &[u8], path: &[u8], error: i32) {
         complain_why(path, b"this file may not be read: permission denied\n");
         return;
     }
-    os::fail(path);
+    complain_error(path);
 }
 
 // Why the file can't be made.
 fn complain_of_making(word: &[u8], path: &[u8], error: i32) {
     complain_start(word);
     if error == libc::EEXIST {
-        complain_why(
-            path,
-            b"there is such a file already, and none is written over: take another name or move it away\n",
-        );
+        complain_of_standing(path);
+        return;
+    }
+    if error == libc::EISDIR {
+        complain_of_folder(path);
         return;
     }
     if error == libc::ENOENT {
@@ -138,16 +152,55 @@ fn complain_of_making(word: &[u8], path: &[u8], error: i32) {
         );
         return;
     }
-    os::fail(path);
+    complain_error(path);
+}
+
+// Something of this name is there.
+fn complain_of_standing(path: &[u8]) {
+    if is_folder(path) {
+        complain_of_folder(path);
+        return;
+    }
+    complain_why(
+        path,
+        b"there is such a file already, and none is written over: take another name or move it away\n",
+    );
+}
+
+fn complain_of_folder(path: &[u8]) {
+    complain_why(
+        path,
+        b"this is a folder, and the name of a new file is wanted\n",
+    );
+}
+
+// A folder has itself in it, by the name of one dot, and nothing else can be opened in this way.
+fn is_folder(path: &[u8]) -> bool {
+    let mut itself = io::buffer();
+    let behind = put(&mut itself, Output { at: 0 }, path);
+    let end = put(&mut itself, behind, b"/.");
+    let count = end.at;
+    let descriptor = os::open_read(part(&itself, 0, count));
+    if descriptor < 0 {
+        return false;
+    }
+    libc::close(descriptor);
+    true
 }
 
 fn complain_why(path: &[u8], why: &[u8]) {
-    complain(path);
+    complain_name(path);
     complain(b": ");
     complain(why);
 }
 
 // Makes a file that is not there yet, and answers a descriptor to write to, or -1. A file that is there stays as it is.
+// Any other error, in the system's words.
+fn complain_error(path: &[u8]) {
+    complain_name(path);
+    os::fail(b"");
+}
+
 pub fn create_file(word: &[u8], path: &[u8]) -> i32 {
     let descriptor = os::create(path);
     if descriptor < 0 {

@@ -2,6 +2,7 @@
 use codes::answer;
 use codes::protocol::Protocol;
 use log_words::entry::tell_long;
+use saying::shown::tell_name;
 use saying::tell;
 use saying::tell_number;
 use script::Fault;
@@ -12,6 +13,7 @@ use script::names::BROADCAST_NOTIFIED;
 use script::names::GROUP_LAST;
 use script::names::GROUP_NOTIFIED;
 use script::words::Word;
+use settings_words::line::tell_mark;
 use settings_words::line::tell_number_of;
 use settings_words::line::tell_quoted;
 use settings_words::line::tell_text;
@@ -30,7 +32,7 @@ pub(crate) enum Why {
 }
 
 fn tell_start(path: &[u8]) {
-    tell(path);
+    tell_name(path);
     tell(b": the script is refused, and no log is made\n");
 }
 
@@ -45,6 +47,7 @@ pub(crate) fn tell_refusal(protocol: Protocol, path: &[u8], number: usize, line:
     tell_text(line);
     tell_number_of(number);
     tell_why(protocol, line, why);
+    tell_mark(line);
     tell(b"\n");
 }
 

@@ -23,6 +23,7 @@ use log_words::fault::write_fault;
 use log_words::fault::write_version_fault;
 use place::first_place;
 use saying::complain;
+use saying::shown::tell_name;
 use saying::tell;
 use saying::write_count;
 use septets::Number;
@@ -108,7 +109,7 @@ fn file_name(path: &[u8]) -> &[u8] {
 }
 
 fn tell_drawn(path: &[u8], drawn: Extent) {
-    tell(path);
+    tell_name(path);
     tell(b": ");
     write_count(
         STDOUT_FILENO,
