@@ -18,7 +18,7 @@ crates_of() {
 # was built from, and rt proves again only what changed.
 stale() {
     [ -e "$1" ] || return 0
-    [ -n "$(find "$here/crates.txt" "$here/crates" \( -name proofs -o -name must-fail \) -prune -o -newer "$1" -name '*.*t' -print -quit)" ]
+    [ -n "$(find "$here/crates.txt" "$here/crates" \( -name proofs -o -name must-fail \) -prune -o -name '*.*t' -newer "$1" -print -quit)" ]
 }
 
 # find_emulator: sets `emulator`, which runs x86-64 programs on this machine, and `tools`, the kit's toolchain with the libraries for them. The kit is found by

@@ -1,18 +1,19 @@
-// Whole files, read into a lent buffer, and new files; how many arguments a word has. What stands in the way is told on standard error, with the program's word and
-// the file's path.
+// Whole files, read into a lent buffer, and new files; how many arguments a word has; how a program ends. What stands in the way is told on standard error, with the
+// program's word and the file's path.
 ghost use mathlib.Core.Path.{_≡_};
 ghost use Prim.Native.Nat.{_≤_};
 ghost use lib.ListN.{length};
 
 pub mod arguments;
+pub mod ending;
 
 use saying::complain;
-use text::words::part;
 use saying::shown::complain_name;
 use text::output::Output;
 use text::output::put;
-
+use text::words::part;
 use text::words::same;
+
 // Whether the file could be read, how many bytes of it the buffer holds now, and whether that is the whole file. Where it could
 // not be read, there are none.
 pub struct Filed {
@@ -44,7 +45,6 @@ pub fn read_file(word: &[u8], path: &[u8], buffer: &mut [u8]) -> Filed
     filed
 }
 
-// Reads the file that an argument of the word names.
 fn open_file(path: &[u8]) -> i32 {
     if same(path, b"-") {
         return libc::STDIN_FILENO;
@@ -52,6 +52,7 @@ fn open_file(path: &[u8]) -> i32 {
     os::open_read(path)
 }
 
+// Reads the file that an argument of the word names.
 pub fn read_argument(word: &[u8], place: usize, buffer: &mut [u8]) -> Filed {
     let mut name = io::buffer();
     let count = os::arg(place, &mut name);
@@ -194,13 +195,13 @@ fn complain_why(path: &[u8], why: &[u8]) {
     complain(why);
 }
 
-// Makes a file that is not there yet, and answers a descriptor to write to, or -1. A file that is there stays as it is.
 // Any other error, in the system's words.
 fn complain_error(path: &[u8]) {
     complain_name(path);
     os::fail(b"");
 }
 
+// Makes a file that is not there yet, and answers a descriptor to write to, or -1. A file that is there stays as it is.
 pub fn create_file(word: &[u8], path: &[u8]) -> i32 {
     let descriptor = os::create(path);
     if descriptor < 0 {

@@ -1,7 +1,7 @@
 // recordings: the program behind the word `record`, which makes a log from a script of events.
-// Its last line on standard output is its verdict, as the other programs' is.
+// Its last line is its verdict, as the other programs' is.
 use filing::arguments::has_arguments;
-use saying::tell_verdict;
+use filing::ending::tell_verdict;
 use settings_values::Settings;
 use settings_words::argument::settings_argument;
 use text::words::part;
