@@ -1,8 +1,11 @@
-// A log's verdict in words: accepted, with what that says of the radio; or the entry at which it is refused, what that entry claims, and what the step
+// A log's verdict in words: accepted, with what that says of the radio and where it left off; or the entry at which it is refused, what that entry claims, and what the step
 // gives or which time rule it breaks.
+mod ending;
 mod refusal;
 
+use ending::tell_ending;
 use filing::arguments::has_option;
+use filing::arguments::tell_argument;
 use filing::log_room;
 use judge::Examined;
 use judge::examine;
@@ -31,6 +34,8 @@ pub fn run_judge() -> u8 {
     }
     let settings = ready.settings;
     let count = ready.count;
+    tell_argument(std::num::wrapping_add_usize(options(strict), 3));
+    tell(b": ");
     tell_judged(strict, settings, part(&log, 0, count))
 }
 
@@ -75,7 +80,10 @@ fn tell_verdict_on(
             tell_accepted(entries, joining, invitation);
             let first = tell_joining(settings.joining as u64, joining);
             let second = tell_invitation(settings.invitation as u64, invitation);
-            tell_strict(strict, first & second)
+            let verdict = tell_strict(strict, first & second);
+            let track = walked.track;
+            tell_ending(track.context);
+            verdict
         }
         Judged::TooLong => {
             tell(b"refused (answer 10): the log has over 65,536 bytes; judge a shorter one\n");
