@@ -1,4 +1,5 @@
 // Bands: the time axis is broken into as many as the log takes, one below the other, each with the list of its entries.
+use crate::label::draw_labels;
 use crate::lanes::draw_lanes;
 use crate::list::below;
 use crate::list::draw_list_head;
@@ -18,7 +19,6 @@ use crate::place::sum;
 use crate::segment::draw_segment;
 use crate::segment::draw_tail;
 use crate::window::Band;
-use crate::window::draw_labels;
 use crate::window::tail_time;
 use drawing::begin_text;
 use drawing::end_text;

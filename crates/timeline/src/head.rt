@@ -2,11 +2,11 @@
 // signs mean.
 ghost use Prim.Native.Nat.{_≤_};
 use crate::band::Extent;
+use crate::label::write_bounds;
 use crate::place::MARGIN;
 use crate::place::Place;
 use crate::survey::Bounds;
 use crate::survey::Survey;
-use crate::window::write_bounds;
 use codes::protocol::Protocol;
 use drawing::begin_text;
 use drawing::end_text;

@@ -2,6 +2,7 @@
 // list in words. It shows what the log claims and judges nothing.
 mod band;
 mod head;
+mod label;
 mod lanes;
 mod list;
 mod mark;

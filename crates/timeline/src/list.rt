@@ -125,20 +125,7 @@ fn draw_asked(
     let actions = claim.actions;
     begin_text(descriptor, b"a", ASKED, base);
     write_actions(descriptor, first_actions(actions));
-    write_started(
-        descriptor,
-        b"; the invitation timer ends ",
-        before.invitation,
-        after.invitation,
-        view.invitation,
-    );
-    write_started(
-        descriptor,
-        b"; the joining timer ends ",
-        before.joining,
-        after.joining,
-        view.joining,
-    );
+    write_starts(descriptor, view, before, after);
     if is_return(before.state, before.asked, after.state) {
         write_return(descriptor, after.state);
     }
@@ -156,6 +143,24 @@ fn draw_asked(
         write_actions(descriptor, action::TELL_MM_EXISTS);
         end_text(descriptor);
     }
+}
+
+// Which timer starts here, and when it ends.
+fn write_starts(descriptor: i32, view: View, before: Place, after: Place) {
+    write_started(
+        descriptor,
+        b"; the invitation timer ends ",
+        before.invitation,
+        after.invitation,
+        view.invitation,
+    );
+    write_started(
+        descriptor,
+        b"; the joining timer ends ",
+        before.joining,
+        after.joining,
+        view.joining,
+    );
 }
 
 // All but the sixth where that has a line of its own.

@@ -1,8 +1,8 @@
 -- `is_free` is safe and ends: its turns are counted down.
 use Prim.Native.Nat.{_≤_}
 use borrow.Author.Needs.{needs}
-use Rattle.timeline.proofs.window.is_free.Statement.{statement}
-use Rattle.timeline.proofs.window.is_free.Tie as tie
+use Rattle.timeline.proofs.label.is_free.Statement.{statement}
+use Rattle.timeline.proofs.label.is_free.Tie as tie
 
 abbrev Inv-loop : tie.InvT-loop
 Inv-loop log view state band from to place₀ turns₀ place turns = turns ≤ 65536
