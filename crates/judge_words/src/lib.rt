@@ -49,20 +49,30 @@ fn options(strict: bool) -> usize {
 
 // Judges a log by the settings of a radio, and answers the verdict. A strict one wants the timers of the settings among those that explain the log.
 fn tell_judged(strict: bool, settings: Settings, log: &[u8]) -> u8 {
+    let examined = examine_by(settings, log);
+    let verdict = tell_examined(strict, settings, log, examined);
+    tell_version(log);
+    verdict
+}
+
+fn examine_by(settings: Settings, log: &[u8]) -> Examined {
+    let identity = settings.identity;
+    let count = settings.count;
+    examine(own_of(settings), part(&identity, 0, count), log)
+}
+
+fn tell_examined(strict: bool, settings: Settings, log: &[u8], examined: Examined) -> u8 {
     let identity = settings.identity;
     let count = settings.count;
     let own = own_of(settings);
-    let examined = examine(own, part(&identity, 0, count), log);
-    let verdict = tell_verdict_on(
+    tell_verdict_on(
         strict,
         settings,
         own,
         part(&identity, 0, count),
         log,
         examined,
-    );
-    tell_version(log);
-    verdict
+    )
 }
 
 fn tell_verdict_on(
