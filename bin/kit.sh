@@ -15,10 +15,13 @@ crates_of() {
 }
 
 # stale FILE: whether FILE, which was built here, is missing or older than a source of any crate: one look at all of them takes less time than finding out which ones it
-# was built from, and rt proves again only what changed.
+# was built from, and rt proves again only what changed. The shell looks itself: `find` takes three times as long.
 stale() {
     [ -e "$1" ] || return 0
-    [ -n "$(find "$here/crates.txt" "$here/crates" \( -name proofs -o -name must-fail \) -prune -o -newer "$1" -name '*.*t' -print -quit)" ]
+    for source in "$here/crates.txt" "$here"/crates/*/src/*.rt "$here"/crates/*/src/*/*.rt "$here"/crates/*/specs/*.antt; do
+        [ ! "$source" -nt "$1" ] || return 0
+    done
+    return 1
 }
 
 # find_emulator: sets `emulator`, which runs x86-64 programs on this machine, and `tools`, the kit's toolchain with the libraries for them. The kit is found by

@@ -8,7 +8,7 @@ from pathlib import Path
 
 ROOT = Path(__file__).resolve().parent.parent
 PROGRAMS = """saying filing fields forms message_command step_command record_command judge_command settings_command message_words settings_words log_words replay
-ignored_words judge_words probe script record_words capture_words drawing timeline help_words heidezirkel recordings pictures""".split()
+ignored_words judge_words probe script record_words capture_words drawing timeline near_words heidezirkel recordings pictures""".split()
 
 KEYWORDS = {"abbrev", "unfoldable", "pub", "data", "record", "module", "where", "let", "in", "use", "as", "unfolding", "λ", "→", ":", "=", "Type", "_"}
 WORD = re.compile(r"«[^»]*»|\"[^\"]*\"|[(){}⟨⟩;,⌜⌝]|λ|[^\s(){}⟨⟩;,⌜⌝«»\"λ]+")

@@ -32,3 +32,14 @@ tagsOf sent =
 -- A message as a packet.
 unfoldable pub packetOf : ℕ → Bool → List ℕ → List ℕ
 packetOf time sent message = packetHeader time (length message + 28) ++ (tagsOf sent ++ message)
+
+-- The packet that stands at time 0, before all messages, so that a reader counts the times from the log's start. It has no direction, and its dissector is that of
+-- plain text, "data-text-lines".
+unfoldable pub startPacket : List ℕ
+startPacket =
+    0 ∷ 0 ∷ 0 ∷ 0 ∷ 0 ∷ 0 ∷ 0 ∷ 0 ∷  -- time 0
+    40 ∷ 0 ∷ 0 ∷ 0 ∷ 40 ∷ 0 ∷ 0 ∷ 0 ∷  -- octets in the file, octets there were
+    0 ∷ 12 ∷ 0 ∷ 16 ∷ 0x64 ∷ 0x61 ∷ 0x74 ∷ 0x61 ∷ 0x2D ∷ 0x74 ∷ 0x65 ∷ 0x78 ∷ 0x74 ∷ 0x2D ∷ 0x6C ∷ 0x69 ∷ 0x6E ∷ 0x65 ∷ 0x73 ∷ 0 ∷
+    0 ∷ 0 ∷ 0 ∷ 0 ∷
+    0x73 ∷ 0x74 ∷ 0x61 ∷ 0x72 ∷ 0x74 ∷ 0x20 ∷ 0x6F ∷ 0x66 ∷ 0x20 ∷ 0x74 ∷ 0x68 ∷ 0x65 ∷ 0x20 ∷ 0x6C ∷ 0x6F ∷ 0x67 ∷  -- "start of the log"
+    []

@@ -5,7 +5,7 @@ ghost use mathlib.Core.List.{_++_};
 ghost use Prim.Native.Nat.{_+_};
 ghost use lib.ListN.{length};
 ghost use Rattle.text.specs.Output.{behind, putLeaves};
-ghost use Rattle.capture.specs.Capture.{captureHeader, packetHeader, tagsOf, packetOf};
+ghost use Rattle.capture.specs.Capture.{captureHeader, startPacket, packetHeader, tagsOf, packetOf};
 use octets::copy_to;
 use octets::little;
 use text::output::Output;
@@ -20,6 +20,18 @@ pub fn put_header(buffer: &mut [u8], output: Output) -> Output
         buffer,
         output,
         b"\xd4\xc3\xb2\xa1\x02\x00\x04\x00\x00\x00\x00\x00\x00\x00\x00\x00\xff\xff\x00\x00\xfc\x00\x00\x00",
+    )
+}
+
+// Puts the packet of the log's start behind the output. Where there is no room, nothing is put and the output stays where it was.
+pub fn put_start(buffer: &mut [u8], output: Output) -> Output
+    ensures { λ r. ⌜ r ≡ behind (now (buffer .entry)) output startPacket ⌝ }
+    ensures { λ _. ⌜ now (buffer .exit) ≡ putLeaves (now (buffer .entry)) output startPacket ⌝ }
+{
+    put(
+        buffer,
+        output,
+        b"\x00\x00\x00\x00\x00\x00\x00\x00\x28\x00\x00\x00\x28\x00\x00\x00\x00\x0c\x00\x10data-text-lines\x00\x00\x00\x00\x00start of the log",
     )
 }
 

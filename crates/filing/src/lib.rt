@@ -1,13 +1,18 @@
-// Whole files, read into a lent buffer, and new files; how many arguments a word has. What stands in the way is told on standard error, with the program's word and
-// the file's path.
+// Whole files, read into a lent buffer, and new files; how many arguments a word has; how a program ends. What stands in the way is told on standard error, with the
+// program's word and the file's path.
 ghost use mathlib.Core.Path.{_≡_};
 ghost use Prim.Native.Nat.{_≤_};
 ghost use lib.ListN.{length};
 
 pub mod arguments;
+pub mod ending;
 
 use saying::complain;
+use saying::shown::complain_name;
+use text::output::Output;
+use text::output::put;
 use text::words::part;
+use text::words::same;
 
 // Whether the file could be read, how many bytes of it the buffer holds now, and whether that is the whole file. Where it could
 // not be read, there are none.
@@ -17,11 +22,11 @@ pub struct Filed {
     pub whole: bool,
 }
 
-// Reads the file from its start, as much as the buffer holds. `word` is the program's word that wants it, as in `heidezirkel show`.
+// Reads the file from its start, as much as the buffer holds; `-` is standard input. `word` is the program's word that wants it, as in `heidezirkel show`.
 pub fn read_file(word: &[u8], path: &[u8], buffer: &mut [u8]) -> Filed
     ensures { λ r. ⌜ r .count ≤ length (now (buffer .exit)) ⌝ }
 {
-    let descriptor = os::open_read(path);
+    let descriptor = open_file(path);
     if descriptor < 0 {
         complain_of(word, path, os::errno());
         return Filed {
@@ -34,8 +39,17 @@ pub fn read_file(word: &[u8], path: &[u8], buffer: &mut [u8]) -> Filed
     if !filed.good {
         complain_of(word, path, os::errno());
     }
-    libc::close(descriptor);
+    if descriptor != libc::STDIN_FILENO {
+        libc::close(descriptor);
+    }
     filed
+}
+
+fn open_file(path: &[u8]) -> i32 {
+    if same(path, b"-") {
+        return libc::STDIN_FILENO;
+    }
+    os::open_read(path)
 }
 
 // Reads the file that an argument of the word names.
@@ -114,17 +128,18 @@ fn complain_of(word: &[u8], path: &[u8], error: i32) {
         complain_why(path, b"this file may not be read: permission denied\n");
         return;
     }
-    os::fail(path);
+    complain_error(path);
 }
 
 // Why the file can't be made.
 fn complain_of_making(word: &[u8], path: &[u8], error: i32) {
     complain_start(word);
     if error == libc::EEXIST {
-        complain_why(
-            path,
-            b"there is such a file already, and none is written over: take another name or move it away\n",
-        );
+        complain_of_standing(path);
+        return;
+    }
+    if error == libc::EISDIR {
+        complain_of_folder(path);
         return;
     }
     if error == libc::ENOENT {
@@ -138,13 +153,52 @@ fn complain_of_making(word: &[u8], path: &[u8], error: i32) {
         );
         return;
     }
-    os::fail(path);
+    complain_error(path);
+}
+
+// Something of this name is there.
+fn complain_of_standing(path: &[u8]) {
+    if is_folder(path) {
+        complain_of_folder(path);
+        return;
+    }
+    complain_why(
+        path,
+        b"there is such a file already, and none is written over: take another name or move it away\n",
+    );
+}
+
+fn complain_of_folder(path: &[u8]) {
+    complain_why(
+        path,
+        b"this is a folder, and the name of a new file is wanted\n",
+    );
+}
+
+// A folder has itself in it, by the name of one dot, and nothing else can be opened in this way.
+fn is_folder(path: &[u8]) -> bool {
+    let mut itself = io::buffer();
+    let behind = put(&mut itself, Output { at: 0 }, path);
+    let end = put(&mut itself, behind, b"/.");
+    let count = end.at;
+    let descriptor = os::open_read(part(&itself, 0, count));
+    if descriptor < 0 {
+        return false;
+    }
+    libc::close(descriptor);
+    true
 }
 
 fn complain_why(path: &[u8], why: &[u8]) {
-    complain(path);
+    complain_name(path);
     complain(b": ");
     complain(why);
+}
+
+// Any other error, in the system's words.
+fn complain_error(path: &[u8]) {
+    complain_name(path);
+    os::fail(b"");
 }
 
 // Makes a file that is not there yet, and answers a descriptor to write to, or -1. A file that is there stays as it is.

@@ -1,4 +1,5 @@
 // The arguments of a word: hexadecimal words that are joined into one text.
+use filing::arguments::argument_count;
 use saying::complain;
 use saying::complain_number;
 use text::hex::digits_before;
@@ -58,7 +59,7 @@ fn join_one(digits: &mut [u8], output: Output, place: usize) -> Joined {
 
 // Joins the arguments from the second on.
 fn join_all(digits: &mut [u8]) -> Joined {
-    let last = os::arg_count();
+    let last = argument_count();
     let mut count = 0;
     let mut place = 2;
     while place < last {

@@ -7,10 +7,11 @@ ghost use Prim.Native.Nat.{_<_};
 use filing::log_room;
 use judge_walk::End;
 use judge_walk::walk;
+use libc::STDOUT_FILENO;
 pub use listing::list;
+use log_words::entry::write_reason;
 use log_words::tell_version;
 use message::Own;
-use reason::tell_reason;
 use replay::own_of;
 use saying::tell;
 use saying::tell_count;
@@ -107,7 +108,7 @@ fn tell_each(counts: &[usize; 7]) {
 fn tell_counted(counts: &[usize; 7], reason: u8)
     requires { ⌜ reason < 7 ⌝ }
 {
-    tell_reason(reason);
+    write_reason(STDOUT_FILENO, reason);
     tell(b": ");
     tell_place(counts[reason as usize]);
     tell(b"\n");

@@ -1,6 +1,5 @@
 // A log's entries from a cleared context on, each taken through its step once more: a line for each whose message is ignored, and how many are for each reason.
 use crate::reason::tell_particulars;
-use crate::reason::tell_reason;
 use codes::protocol::Protocol;
 use context::Context;
 use context::state_number;
@@ -10,6 +9,7 @@ use libc::STDOUT_FILENO;
 use log::Found;
 use log::read_entry;
 use log_words::entry::tell_time;
+use log_words::entry::write_reason;
 use log_words::entry::write_state_name;
 use message::Own;
 use message::Reading;
@@ -113,7 +113,7 @@ fn tell_passed(
     tell(b", ");
     tell_kind(protocol, octets);
     tell(b" ignored (");
-    tell_reason(passed.reason);
+    write_reason(STDOUT_FILENO, passed.reason);
     tell(b")");
     tell_particulars(protocol, passed.reason, context, identity, octets);
     tell(b"\n");

@@ -1,4 +1,4 @@
-// Why a message is ignored, in words: the number and the name of the reason, and what the message has beside what the call has.
+// What the reason for which a message is ignored is in this message: what it has beside what the call has.
 use codes::protocol::Protocol;
 use codes::protocol::discriminator;
 use context::Context;
@@ -11,20 +11,6 @@ use saying::tell;
 use saying::tell_hex;
 use saying::tell_number;
 use text::words::part;
-
-// A reason by its number, 1 to 6.
-pub(crate) fn tell_reason(reason: u8) {
-    tell(b"reason ");
-    tell_number(reason);
-    match reason {
-        1 => tell(b", no call"),
-        2 => tell(b", too short"),
-        3 => tell(b", other protocol"),
-        4 => tell(b", transaction mismatch"),
-        5 => tell(b", other identity"),
-        _ => tell(b", COMM false"),
-    }
-}
 
 // What the reason is in this message, from the context before it, for a radio of this identity.
 pub(crate) fn tell_particulars(

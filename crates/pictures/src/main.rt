@@ -1,11 +1,11 @@
 // pictures: the program behind the words that make a file of a log for other programs to show: `pcap` and `timeline`.
-// Its last line on standard output is its verdict, as the other programs' is.
+// Its last line is its verdict, as the other programs' is.
 use capture_words::write_capture;
 use filing::arguments::has_arguments;
+use filing::ending::tell_verdict;
 use filing::log_room;
 use filing::read_file;
 use saying::complain;
-use saying::tell_verdict;
 use text::words::part;
 use text::words::same;
 use timeline::tell_timeline;

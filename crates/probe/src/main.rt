@@ -1,18 +1,19 @@
 // probe: the program behind the word `probe`, by which other programs ask: commands on standard input, a line each, answered by a line each.
-// Its last line on standard output is its verdict, as the other programs' is.
+// Its last line is its verdict, as the other programs' is.
 mod answer;
 mod input;
 
+use filing::arguments::argument_count;
+use filing::ending::tell_verdict;
 use input::line_room;
 use input::octets_room;
 use input::stream;
 use saying::complain;
 use saying::flush;
-use saying::tell_verdict;
 
 // Answers the verdict.
 fn run_probe() -> u8 {
-    if os::arg_count() != 2 {
+    if argument_count() != 2 {
         complain(b"heidezirkel probe: takes no arguments; commands come on standard input\n");
         return 2;
     }

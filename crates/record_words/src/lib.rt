@@ -14,6 +14,7 @@ use making::make;
 use message::Own;
 use refusal::tell_too_long;
 use replay::own_of;
+use saying::shown::tell_name;
 use saying::tell;
 use saying::tell_count;
 use settings_values::Settings;
@@ -77,7 +78,7 @@ fn write_log(path: &[u8], log: &[u8], entries: usize) -> u8 {
     if !close_file(b"record", path, descriptor, whole) {
         return 2;
     }
-    tell(path);
+    tell_name(path);
     tell(b": ");
     tell_count(entries, b" entry, ", b" entries, ");
     tell_count(log.len(), b" byte\n", b" bytes\n");

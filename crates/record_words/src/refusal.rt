@@ -1,10 +1,13 @@
 // Why a script is refused: the line's number, its text, what is wrong there and what is wanted.
 use codes::answer;
+use codes::message_type;
 use codes::protocol::Protocol;
 use log_words::entry::tell_long;
+use saying::shown::tell_name;
 use saying::tell;
 use saying::tell_number;
 use script::Fault;
+use script::Unfit;
 use script::names::BEFORE_NOTIFIED;
 use script::names::BEHIND_NOTIFIED;
 use script::names::BROADCAST_LAST;
@@ -12,6 +15,7 @@ use script::names::BROADCAST_NOTIFIED;
 use script::names::GROUP_LAST;
 use script::names::GROUP_NOTIFIED;
 use script::words::Word;
+use settings_words::line::tell_mark;
 use settings_words::line::tell_number_of;
 use settings_words::line::tell_quoted;
 use settings_words::line::tell_text;
@@ -30,7 +34,7 @@ pub(crate) enum Why {
 }
 
 fn tell_start(path: &[u8]) {
-    tell(path);
+    tell_name(path);
     tell(b": the script is refused, and no log is made\n");
 }
 
@@ -45,6 +49,7 @@ pub(crate) fn tell_refusal(protocol: Protocol, path: &[u8], number: usize, line:
     tell_text(line);
     tell_number_of(number);
     tell_why(protocol, line, why);
+    tell_mark(line);
     tell(b"\n");
 }
 
@@ -110,7 +115,7 @@ fn tell_events(protocol: Protocol) {
     }
     tell(b" ");
     tell(&BEHIND_NOTIFIED);
-    tell(b" ");
+    tell(b" receive ");
     match protocol {
         Protocol::Broadcast => tell(&BROADCAST_LAST),
         Protocol::Group => tell(&GROUP_LAST),
@@ -123,7 +128,7 @@ fn tell_wanted(protocol: Protocol, fault: Fault) {
             b"the kind of call is wanted: broadcast, or group for one with talk-back; a script without this line is of a broadcast call",
         ),
         Fault::Time => tell(
-            b"the time is wanted: milliseconds from the start of the log, a whole number without a leading zero",
+            b"the time is wanted, from the start of the log: milliseconds, a whole number without a leading zero; or minutes and seconds as 1:00, hours, minutes and seconds as 0:01:00, with milliseconds as 0:01:00.500",
         ),
         Fault::Event => {
             tell(b"an event is wanted, one of: ");
@@ -134,12 +139,52 @@ fn tell_wanted(protocol: Protocol, fault: Fault) {
             b"reference=H is wanted: the call reference, H being 8 hexadecimal digits",
         ),
         Fault::Mode => tell(
-            b"the mode is wanted, in which the message was received: acknowledged or unacknowledged",
+            b"the mode is wanted, in which the message was received: acknowledged or unacknowledged; to tell a message by its name, write receive",
         ),
+        Fault::Named(unfit) => tell_message_wanted(unfit),
         Fault::Digit => tell(b"octets of the message are wanted: hexadecimal digits, two an octet"),
         Fault::HalfOctet => tell(b"one more digit is wanted: the last octet is half there"),
         Fault::TooLong => tell(b"the message is to end: it has at most 251 octets"),
-        Fault::Surplus => tell(b"the line is to end"),
+        Fault::Surplus => tell(b"the line is to end, or a comment to begin with #"),
         Fault::Tab => tell(b"a space is wanted: words are parted by spaces"),
     }
+}
+
+// What is wanted of a message that is told by its name.
+fn tell_message_wanted(unfit: Unfit) {
+    match unfit {
+        Unfit::Message => tell(
+            b"the name of a message is wanted that a radio receives, one of: connect termination termination-reject get-status set-parameter; any other is told by its octets, behind message",
+        ),
+        Unfit::Flag => tell(
+            b"flag=N is wanted: 1 in a call that the radio set up, 0 in one that it was told of",
+        ),
+        Unfit::Cause => tell(
+            b"cause=N is wanted: the number of the cause, 0 to 127, as 16 for normal call clearing or 24 where the network wants to maintain the call",
+        ),
+        Unfit::Identity => tell(
+            b"identity=H is wanted: the mobile identity that is asked, H being 2 to 16 hexadecimal digits, an even count",
+        ),
+        Unfit::Truth => tell(b"T or F is wanted, for true or false"),
+        Unfit::NoCall => tell(
+            b"value=N is wanted: the radio is in no call here whose transaction value the message could have",
+        ),
+        Unfit::Parameter => tell(
+            b"a parameter to set is wanted: orig=T, comm=T, d-att=T or u-att=T, or F; those that are left out stay as they are",
+        ),
+        Unfit::Field(kind) => tell_field_wanted(kind),
+        Unfit::Again => tell(b"a field is wanted that does not stand on the line already"),
+    }
+}
+
+// The fields that a message of a type has.
+fn tell_field_wanted(kind: u8) {
+    tell(b"a field of this message is wanted: ");
+    match kind {
+        message_type::CONNECT => tell(b"reference=H, originator=T or F"),
+        message_type::GET_STATUS => tell(b"identity=H"),
+        message_type::SET_PARAMETER => tell(b"orig=, comm=, d-att=, u-att=, each T or F"),
+        _ => tell(b"cause=N"),
+    }
+    tell(b"; value=N, flag=N; acknowledged or unacknowledged");
 }

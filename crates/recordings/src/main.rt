@@ -1,9 +1,9 @@
 // recordings: the program behind the words `record`, which makes a log from a script of events, and `ignored`, which lists the messages of a log that the radio ignored, as `record` does too.
-// Its last line on standard output is its verdict, as the other programs' is.
+// Its last line is its verdict, as the other programs' is.
 use filing::arguments::has_arguments;
+use filing::ending::tell_verdict;
 use ignored_words::run_ignored;
 use saying::complain;
-use saying::tell_verdict;
 use settings_values::Settings;
 use settings_words::argument::settings_argument;
 use text::words::part;

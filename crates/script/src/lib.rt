@@ -1,16 +1,22 @@
 // A script of events, from which a log is made: one line of it, read. A line is TIME EVENT [DATA..], its words parted by one or more spaces; or, before the first
-// event, `call broadcast` or `call group`. A line that starts with # and one without words say nothing.
+// event, `call broadcast` or `call group`. What stands from a # on, at the line's start or behind a space, says nothing, and so does a line without words.
+mod clock;
+mod composing;
 mod joined;
+mod named;
 pub mod names;
+mod noting;
 pub mod words;
 
 ghost use Prim.Native.Nat.{_≤_};
 ghost use lib.ListN.{length};
+use clock::time_of;
 use codes::event;
 use codes::protocol::Protocol;
 use joined::Joined;
 use joined::join;
 use log::Reference;
+use named::read_named;
 use names::event_named;
 use text::decimal::number_of;
 use text::hex::read_hex;
@@ -24,8 +30,7 @@ const TAB: u8 = 9;
 
 const CR: u8 = 13;
 
-// Later than the last entry of any log: 65,536 times 86,400,000.
-pub const LATEST: u64 = 5662310400000;
+const SPACE: u8 = 32;
 
 // An event of a script: its time in milliseconds from the start, its number, and what it carries; what it does not carry is 0. The octets of
 // a message are the first `count` of the buffer that is lent for them.
@@ -38,7 +43,17 @@ pub struct Told {
     pub count: usize,
 }
 
-// What can't be read: the word of that name; a character that is no hexadecimal digit; a last octet that is half there; more than 512 octets, or than the
+// The call that the script's radio is in, of which a message by its name takes what the line leaves out: whether there is one; the transaction value, and the flag
+// that the radio expects; the call reference; and the state attributes.
+pub struct Call {
+    pub on: bool,
+    pub value: u8,
+    pub flag: bool,
+    pub reference: Reference,
+    pub attributes: u8,
+}
+
+// What can't be read: the word of that name; what a message by its name needs; a character that is no hexadecimal digit; a last octet that is half there; more than 512 octets, or than the
 // buffer has; a word behind the last; a tab.
 pub enum Fault {
     Kind,
@@ -47,11 +62,26 @@ pub enum Fault {
     Value,
     Reference,
     Mode,
+    Named(Unfit),
     Digit,
     HalfOctet,
     TooLong,
     Surplus,
     Tab,
+}
+
+// What can't be read of a message by its name: the word of that name; the transaction value, where the radio is in no call that has one; a parameter, where none is
+// given; a field that a message of this type does not have; a field that stands on the line already.
+pub enum Unfit {
+    Message,
+    Flag,
+    Cause,
+    Identity,
+    Truth,
+    NoCall,
+    Parameter,
+    Field(u8),
+    Again,
 }
 
 // What a line is. A fault comes with the word where it is, which has no characters where the line ends too early.
@@ -74,16 +104,26 @@ fn without_return(line: &[u8]) -> &[u8] {
     line
 }
 
-fn says_nothing(line: &[u8]) -> bool {
-    let word = word_from(line, 0);
-    let comment = same(part(line, 0, 1), b"#");
-    comment | (word.count == 0)
+// Where a comment begins, or the line's end.
+fn comment_at(line: &[u8]) -> usize {
+    let mut before = SPACE;
+    let mut at = 0;
+    while at < line.len() {
+        if (line[at] == b'#') & (before == SPACE) {
+            return at;
+        }
+        before = line[at];
+        at += 1;
+    }
+    at
 }
 
-// Reads a line of a script for a call of this protocol. It has no line feed. The octets of a message are put over the start of `octets`.
-pub fn read_line(protocol: Protocol, line: &[u8], octets: &mut [u8]) -> Line {
-    let text = without_return(line);
-    if says_nothing(text) {
+// Reads a line of a script for a radio in this call, of this protocol. It has no line feed. The octets of a message are put over the start of `octets`.
+pub fn read_line(protocol: Protocol, call: Call, line: &[u8], octets: &mut [u8]) -> Line {
+    let whole = without_return(line);
+    let text = part(whole, 0, comment_at(whole));
+    let word = word_from(text, 0);
+    if word.count == 0 {
         return Line::Nothing;
     }
     let tab = find(text, TAB);
@@ -97,15 +137,14 @@ pub fn read_line(protocol: Protocol, line: &[u8], octets: &mut [u8]) -> Line {
             },
         );
     }
-    let word = word_from(text, 0);
     if same(part(text, word.start, word.count), b"call") {
         return read_kind(text, word.next);
     }
-    let time = number_of(part(text, word.start, word.count), LATEST);
+    let time = time_of(part(text, word.start, word.count));
     if !time.good {
         return Line::Wrong(Fault::Time, word);
     }
-    read_event(protocol, text, word.next, time.value, octets)
+    read_event(protocol, call, text, word.next, time.value, octets)
 }
 
 // The kind of call that a script is of.
@@ -128,10 +167,20 @@ fn read_kind(line: &[u8], from: usize) -> Line
 }
 
 // The event's name and what stands behind it.
-fn read_event(protocol: Protocol, line: &[u8], from: usize, time: u64, octets: &mut [u8]) -> Line
+fn read_event(
+    protocol: Protocol,
+    call: Call,
+    line: &[u8],
+    from: usize,
+    time: u64,
+    octets: &mut [u8],
+) -> Line
     requires { ⌜ from ≤ length (now line) ⌝ }
 {
     let word = word_from(line, from);
+    if same(part(line, word.start, word.count), b"receive") {
+        return read_named(protocol, call, line, word.next, time, octets);
+    }
     let event = event_named(protocol, part(line, word.start, word.count));
     if event == 0 {
         return Line::Wrong(Fault::Event, word);
@@ -235,7 +284,7 @@ fn read_reference(line: &[u8], from: usize, told: Told) -> Line
 }
 
 // The mode of a message by its name, 2 for none.
-fn mode_named(name: &[u8]) -> u8 {
+pub(crate) fn mode_named(name: &[u8]) -> u8 {
     if same(name, b"acknowledged") {
         return 0;
     }

@@ -27,7 +27,7 @@ pub const GROUP_LAST: [u8; 105] =
 const BEFORE_GROUP: u8 = event::RECEIVE_MODE - 1;
 
 // The place of a word among others, counted from 1; 0 where it is none of them.
-fn place_among(names: &[u8], name: &[u8]) -> u8 {
+pub(crate) fn place_among(names: &[u8], name: &[u8]) -> u8 {
     let mut place: u8 = 0;
     let mut at: usize = 0;
     while at < names.len() {
@@ -72,7 +72,7 @@ fn own_number(protocol: Protocol, name: &[u8]) -> u8 {
     }
 }
 
-fn or_else(number: u8, other: u8) -> u8 {
+pub(crate) fn or_else(number: u8, other: u8) -> u8 {
     if number == 0 {
         return other;
     }

@@ -38,8 +38,13 @@ pub struct Fitted {
 
 // The settings file that is the first argument of a word. One that is refused stops the word at its line.
 pub fn settings_argument(word: &[u8]) -> Fitted {
+    settings_at(word, 2)
+}
+
+// The settings file that is the argument at a place.
+fn settings_at(word: &[u8], place: usize) -> Fitted {
     let mut name = io::buffer();
-    let length = os::arg(2, &mut name);
+    let length = os::arg(place, &mut name);
     let mut file = io::large_buffer();
     let filed = read_file(word, part(&name, 0, length), &mut file);
     if !filed.good {
@@ -66,7 +71,7 @@ pub fn settings_argument(word: &[u8]) -> Fitted {
     }
 }
 
-// The same with a log, of which the first `count` bytes of a lent buffer are.
+// The same with a log, of which the first `count` bytes of a lent buffer are. The verdict is 2 where one of them is missing.
 pub struct Ready {
     pub verdict: u8,
     pub settings: Settings,
@@ -75,17 +80,23 @@ pub struct Ready {
 
 // The settings file and the log that are the two arguments of a word.
 pub fn settings_and_log(word: &[u8], log: &mut [u8]) -> Ready {
-    if !has_arguments(2, word, b"two arguments, a settings file and a log") {
-        return stopped(2);
+    settings_and_log_behind(word, 0, log)
+}
+
+// The same behind so many options. Where the settings are refused, the log was not looked at: that is no verdict on it.
+pub fn settings_and_log_behind(word: &[u8], options: usize, log: &mut [u8]) -> Ready {
+    let count = std::num::wrapping_add_usize(options, 2);
+    if !has_arguments(count, word, b"two arguments, a settings file and a log") {
+        return stopped();
     }
-    let fitted = settings_argument(word);
+    let fitted = settings_at(word, count);
     let settings = fitted.settings;
     if fitted.verdict != 0 {
-        return stopped(fitted.verdict);
+        return stopped();
     }
-    let filed = read_argument(word, 3, log);
+    let filed = read_argument(word, std::num::wrapping_add_usize(count, 1), log);
     if !filed.good {
-        return stopped(2);
+        return stopped();
     }
     Ready {
         verdict: 0,
@@ -94,10 +105,10 @@ pub fn settings_and_log(word: &[u8], log: &mut [u8]) -> Ready {
     }
 }
 
-// Why a word does not go on.
-fn stopped(verdict: u8) -> Ready {
+// The word does not go on.
+fn stopped() -> Ready {
     Ready {
-        verdict,
+        verdict: 2,
         settings: Settings::NONE,
         count: 0,
     }

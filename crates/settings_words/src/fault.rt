@@ -1,6 +1,7 @@
 // Why a settings file is refused: the line's number, its text as far as it can be shown, and what was expected there.
 ghost use Prim.Native.Nat.{_≤_};
 ghost use lib.ListN.{length};
+use crate::line::tell_mark;
 use crate::line::tell_number_of;
 use crate::line::tell_text;
 use saying::tell;
@@ -75,6 +76,7 @@ fn tell_line(line: &[u8], fault: Fault) {
 
 fn tell_wanted(line: &[u8], fault: Fault) {
     tell_mend(fault);
+    tell_mark(line);
     if ends_with_return(line) {
         tell(
             b"; the line ends with \\x0d, as files from Windows do: save the file with LF alone as line end",

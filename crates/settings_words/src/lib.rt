@@ -7,6 +7,7 @@ use codes::answer;
 use fault::tell_fault;
 use fault::tell_too_long;
 use libc::STDOUT_FILENO;
+use saying::shown::tell_name;
 use saying::tell;
 use saying::tell_hex;
 use saying::tell_number;
@@ -22,7 +23,7 @@ pub fn tell_settings(path: &[u8], file: &[u8], whole: bool, read: ReadSettings) 
     let line = read.line;
     let fault = read.fault;
     let settings = read.settings;
-    tell(path);
+    tell_name(path);
     if whole {
         if read.answer == answer::TAKEN {
             return tell_read(settings);

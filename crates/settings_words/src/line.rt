@@ -1,8 +1,11 @@
 // A line of a file that people write, told with its number: for what is refused there.
+use libc::STDOUT_FILENO;
+use saying::shown::Plain;
+use saying::shown::write_shown;
 use saying::tell;
-use saying::tell_octet;
 use saying::tell_place;
 use text::words::part;
+use text::words::same;
 
 // How many characters of a line are shown.
 const SHOWN: usize = 60;
@@ -27,36 +30,19 @@ pub fn tell_text(line: &[u8]) {
 pub fn tell_quoted(text: &[u8]) {
     tell(b"\"");
     if SHOWN < text.len() {
-        tell_characters(part(text, 0, SHOWN));
+        write_shown(STDOUT_FILENO, part(text, 0, SHOWN), Plain::Ascii);
         tell(b"\"..");
         return;
     }
-    tell_characters(text);
+    write_shown(STDOUT_FILENO, text, Plain::Ascii);
     tell(b"\"");
 }
 
-fn tell_characters(text: &[u8]) {
-    let mut at = 0;
-    while at < text.len() {
-        tell_character(text, at, text[at]);
-        at += 1;
+// What some editors put before a text, and no eye sees.
+pub fn tell_mark(line: &[u8]) {
+    if same(part(line, 0, 3), &[239, 187, 191]) {
+        tell(
+            b"; the line begins with \\xef\\xbb\\xbf, a byte order mark, as some editors put it before a text: save the file as UTF-8 without it (without BOM)",
+        );
     }
-}
-
-// A character that can be printed as it is, any other as \xNN.
-fn tell_character(text: &[u8], at: usize, character: u8) {
-    if character < 32 {
-        tell_escaped(character);
-        return;
-    }
-    if 126 < character {
-        tell_escaped(character);
-        return;
-    }
-    tell(part(text, at, 1));
-}
-
-fn tell_escaped(character: u8) {
-    tell(b"\\x");
-    tell_octet(character);
 }

@@ -1,4 +1,5 @@
 // Bands: the time axis is broken into as many as the log takes, one below the other, each with the list of its entries.
+use crate::label::draw_labels;
 use crate::lanes::draw_lanes;
 use crate::list::below;
 use crate::list::draw_list_head;
@@ -13,9 +14,12 @@ use crate::place::View;
 use crate::place::in_new_band;
 use crate::place::next_place;
 use crate::place::onward;
+use crate::place::shown;
 use crate::place::sum;
 use crate::segment::draw_segment;
 use crate::segment::draw_tail;
+use crate::window::Band;
+use crate::window::tail_time;
 use drawing::begin_text;
 use drawing::end_text;
 use log::Found;
@@ -135,15 +139,36 @@ fn draw_band(
 ) {
     draw_title(descriptor, y, first, end, extent);
     draw_lanes(descriptor, view, y);
-    draw_entries(descriptor, log, view, y, first, end.number, 0);
-    if extent.total <= end.number {
-        draw_tail(descriptor, view, y, end);
-    }
-    draw_entries(descriptor, log, view, y, first, end.number, 1);
+    let band = Band {
+        last: end.number,
+        tail: extent.total <= end.number,
+    };
+    draw_times(descriptor, log, view, y, first, end, band);
     if first.number < end.number {
         draw_list_head(descriptor, view, y);
     }
-    draw_entries(descriptor, log, view, y, first, end.number, 2);
+    draw_entries(descriptor, log, view, y, first, band, 2);
+}
+
+// What lies over the lanes: bars and windows, the marks of the entries, the bounds of the windows.
+fn draw_times(
+    descriptor: i32,
+    log: &[u8],
+    view: View,
+    y: u64,
+    first: Place,
+    end: Place,
+    band: Band,
+) {
+    draw_entries(descriptor, log, view, y, first, band, 0);
+    if band.tail {
+        draw_tail(descriptor, log, view, y, end, band);
+    }
+    draw_entries(descriptor, log, view, y, first, band, 1);
+    draw_entries(descriptor, log, view, y, first, band, 3);
+    if band.tail {
+        draw_labels(descriptor, log, view, y, end, tail_time(view, end), band);
+    }
 }
 
 // From when to when, which entries, and what comes behind the last.
@@ -197,30 +222,42 @@ fn draw_entries(
     view: View,
     y: u64,
     first: Place,
-    last: usize,
+    band: Band,
     kind: u8,
 ) {
     let mut place = first;
     let mut turns: u64 = 65536;
     while turns > 0 {
-        if last <= place.number {
+        if band.last <= place.number {
             return;
         }
-        place = draw_entry(descriptor, log, view, y, place, kind);
+        place = draw_entry(descriptor, log, view, y, place, band, kind);
         turns -= 1;
     }
 }
 
-fn draw_entry(descriptor: i32, log: &[u8], view: View, y: u64, place: Place, kind: u8) -> Place {
+fn draw_entry(
+    descriptor: i32,
+    log: &[u8],
+    view: View,
+    y: u64,
+    place: Place,
+    band: Band,
+    kind: u8,
+) -> Place {
     let table = view.table;
     let Found::Read(entry, at) = read_entry(table, log, place.at) else {
         return next_place(log, view, place);
     };
     let next = onward(log, view, place, entry, at);
     match kind {
-        0 => draw_segment(descriptor, view, y, place, next, entry.delta as u64),
+        0 => draw_segment(descriptor, log, view, y, place, next, band),
         1 => draw_mark(descriptor, view, y, place, next, entry),
-        _ => draw_row(descriptor, log, view, y, place, next, entry),
+        2 => draw_row(descriptor, log, view, y, place, next, entry),
+        _ => {
+            let time = shown(place, entry.delta as u64);
+            draw_labels(descriptor, log, view, y, place, time, band);
+        }
     }
     next
 }

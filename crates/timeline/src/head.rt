@@ -2,9 +2,9 @@
 // signs mean.
 ghost use Prim.Native.Nat.{_≤_};
 use crate::band::Extent;
+use crate::label::write_bounds;
 use crate::place::MARGIN;
 use crate::place::Place;
-use crate::segment::write_bounds;
 use crate::survey::Bounds;
 use crate::survey::Survey;
 use codes::protocol::Protocol;

@@ -2,12 +2,15 @@
 // list in words. It shows what the log claims and judges nothing.
 mod band;
 mod head;
+mod label;
 mod lanes;
 mod list;
 mod mark;
 mod place;
+mod reason;
 mod segment;
 mod survey;
+mod window;
 
 use band::Extent;
 use band::draw_bands;
@@ -23,6 +26,7 @@ use log_words::fault::write_fault;
 use log_words::fault::write_version_fault;
 use place::first_place;
 use saying::complain;
+use saying::shown::tell_name;
 use saying::tell;
 use saying::write_count;
 use septets::Number;
@@ -30,6 +34,9 @@ use septets::read_number;
 use survey::Survey;
 use survey::survey_log;
 use survey::view_of;
+use text::words::find;
+use text::words::part;
+use text::words::same;
 use version::Known;
 use version::Table;
 
@@ -70,6 +77,9 @@ fn draw_log(table: Table, log: &[u8], at: usize, name: &[u8], path: &[u8]) -> u8
         return 2;
     }
     tell_drawn(path, drawn);
+    if is_misnamed(file_name(path)) {
+        complain_of_name(path);
+    }
     if found.broken {
         complain_of_fault(table, log, found);
         return 1;
@@ -107,8 +117,23 @@ fn file_name(path: &[u8]) -> &[u8] {
     path
 }
 
+// Whether a file's name says that it is something else than SVG.
+fn is_misnamed(name: &[u8]) -> bool {
+    let end = part(name, std::num::wrapping_sub_usize(name.len(), 4), 4);
+    let right = same(end, b".svg") | same(end, b".SVG");
+    (find(name, b'.') < name.len()) & !right
+}
+
+fn complain_of_name(path: &[u8]) {
+    complain(b"heidezirkel timeline: ");
+    complain(path);
+    complain(
+        b": the picture is SVG, whatever its name says: with a name that ends in .svg programs know how to open it\n",
+    );
+}
+
 fn tell_drawn(path: &[u8], drawn: Extent) {
-    tell(path);
+    tell_name(path);
     tell(b": ");
     write_count(
         STDOUT_FILENO,

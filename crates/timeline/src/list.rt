@@ -7,6 +7,7 @@ use crate::place::Watch;
 use crate::place::has_two_actions;
 use crate::place::less;
 use crate::place::sum;
+use crate::reason::write_why;
 use codes::action;
 use codes::event;
 use codes::protocol::Protocol;
@@ -39,18 +40,18 @@ const FIRST: u64 = 57;
 
 const LINE: u64 = 16;
 
-// Where the columns start, as their names do.
+// Where the columns start, as their names do. Each has room for its longest words in a wide font too.
 const TIME: u64 = 64;
 
-const EVENT: u64 = 152;
+const EVENT: u64 = 156;
 
-const ANSWER: u64 = 392;
+const ANSWER: u64 = 426;
 
-const STATE: u64 = 452;
+const STATE: u64 = 482;
 
-const SENT: u64 = 522;
+const SENT: u64 = 562;
 
-const ASKED: u64 = 672;
+const ASKED: u64 = 702;
 
 // So many lines below a place.
 pub(crate) fn below(y: u64, lines: u64) -> u64 {
@@ -72,11 +73,11 @@ pub(crate) fn draw_list_head(descriptor: i32, view: View, y: u64) {
         descriptor,
         b"<text class=\"t\" x=\"28\" y=\"#\">no.</text>\n\
           <text class=\"t\" x=\"64\" y=\"#\">time</text>\n\
-          <text class=\"t\" x=\"152\" y=\"#\">what happened</text>\n\
-          <text class=\"t\" x=\"392\" y=\"#\">answer</text>\n\
-          <text class=\"t\" x=\"452\" y=\"#\">state</text>\n\
-          <text class=\"t\" x=\"522\" y=\"#\">message sent</text>\n\
-          <text class=\"t\" x=\"672\" y=\"#\">asked of the other layers</text>\n\
+          <text class=\"t\" x=\"156\" y=\"#\">what happened</text>\n\
+          <text class=\"t\" x=\"426\" y=\"#\">answer</text>\n\
+          <text class=\"t\" x=\"482\" y=\"#\">state</text>\n\
+          <text class=\"t\" x=\"562\" y=\"#\">message sent</text>\n\
+          <text class=\"t\" x=\"702\" y=\"#\">asked of the other layers; why a message was ignored</text>\n\
           <line class=\"grid\" x1=\"28\" y1=\"#\" x2=\"1160\" y2=\"#\"/>\n",
         &[base, base, base, base, base, base, base, rule, rule],
     );
@@ -106,13 +107,46 @@ pub(crate) fn draw_row(
     draw_happened(descriptor, protocol, log, base, after.time, entry);
     draw_step(descriptor, base, before.state, claim);
     draw_sent(descriptor, protocol, log, base, claim.reply);
-    draw_asked(descriptor, view, base, before, after, claim.actions);
+    draw_asked(descriptor, log, view, base, before, after, entry);
 }
 
-// What is asked of the other layers, and what that starts or leads back to.
-fn draw_asked(descriptor: i32, view: View, base: u64, before: Place, after: Place, actions: u8) {
+// What is asked of the other layers, and what that starts or leads back to. A message that was ignored asks nothing, and its reason stands there.
+fn draw_asked(
+    descriptor: i32,
+    log: &[u8],
+    view: View,
+    base: u64,
+    before: Place,
+    after: Place,
+    entry: Entry,
+) {
+    let table = view.table;
+    let claim = entry.claim;
+    let actions = claim.actions;
     begin_text(descriptor, b"a", ASKED, base);
     write_actions(descriptor, first_actions(actions));
+    write_starts(descriptor, view, before, after);
+    if is_return(before.state, before.asked, after.state) {
+        write_return(descriptor, after.state);
+    }
+    write_why(
+        descriptor,
+        version::protocol(table),
+        log,
+        before.transaction,
+        before.state,
+        entry,
+    );
+    end_text(descriptor);
+    if has_two_actions(actions) {
+        begin_text(descriptor, b"a", ASKED, sum(base, LINE));
+        write_actions(descriptor, action::TELL_MM_EXISTS);
+        end_text(descriptor);
+    }
+}
+
+// Which timer starts here, and when it ends.
+fn write_starts(descriptor: i32, view: View, before: Place, after: Place) {
     write_started(
         descriptor,
         b"; the invitation timer ends ",
@@ -127,15 +161,6 @@ fn draw_asked(descriptor: i32, view: View, base: u64, before: Place, after: Plac
         after.joining,
         view.joining,
     );
-    if is_return(before.state, before.asked, after.state) {
-        write_return(descriptor, after.state);
-    }
-    end_text(descriptor);
-    if has_two_actions(actions) {
-        begin_text(descriptor, b"a", ASKED, sum(base, LINE));
-        write_actions(descriptor, action::TELL_MM_EXISTS);
-        end_text(descriptor);
-    }
 }
 
 // All but the sixth where that has a line of its own.

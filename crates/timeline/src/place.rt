@@ -1,4 +1,6 @@
 // Where the walk through a log stands: what the log claims there, and where that is in the picture.
+use crate::reason::Transaction;
+use crate::reason::transaction_behind;
 use codes::action;
 use codes::answer;
 use codes::event;
@@ -16,7 +18,7 @@ use version::Table;
 // The picture is 297 mm wide, 4 units a millimetre. Time runs from LEFT to RIGHT, and its marks stay LEAD away from both.
 pub(crate) const MARGIN: u64 = 28;
 
-pub(crate) const LEFT: u64 = 240;
+pub(crate) const LEFT: u64 = 254;
 
 pub(crate) const RIGHT: u64 = 1160;
 
@@ -71,12 +73,16 @@ pub(crate) struct Place {
     pub state: u8,
     // The state that a termination was asked from, 0 where none is.
     pub asked: u8,
+    // The transaction of the call that it is in.
+    pub transaction: Transaction,
     // The joining timer, which a join starts, and the invitation timer, which a notification does.
     pub joining: Watch,
     pub invitation: Watch,
     // In thousandths of a unit, so that no rounding adds up; then the middle of the last entry's number, in units.
     pub x: u64,
     pub label: u64,
+    // Whether what comes before it is not drawn next to it: at a band's start and behind a strip.
+    pub fresh: bool,
     // The lines that the band's list has so far.
     pub lines: u64,
 }
@@ -131,10 +137,12 @@ pub(crate) fn first_place(at: usize) -> Place {
         time: 0,
         state: 0,
         asked: 0,
+        transaction: Transaction::NONE,
         joining: Watch::NEVER,
         invitation: Watch::NEVER,
         x: (LEFT + LEAD) * 1000,
         label: 0,
+        fresh: true,
         lines: 0,
     }
 }
@@ -144,6 +152,7 @@ pub(crate) fn in_new_band(place: Place) -> Place {
     let mut first = place;
     first.x = (LEFT + LEAD) * 1000;
     first.label = 0;
+    first.fresh = true;
     first.lines = 0;
     first
 }
@@ -251,10 +260,12 @@ pub(crate) fn onward(log: &[u8], view: View, place: Place, entry: Entry, at: usi
         time,
         state: claim.state,
         asked: asked_from(place.state, place.asked, claim.state),
+        transaction: transaction_behind(log, place.transaction, place.state, entry),
         joining,
         invitation,
         x,
         label: greater(x / 1000, sum(place.label, APART)),
+        fresh: is_cut(delta),
         lines: sum(place.lines, lines_of(table, log, claim)),
     }
 }

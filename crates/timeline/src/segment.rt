@@ -1,22 +1,19 @@
-// The time from one entry to the next: the bar of the state, the marks of the time axis, the windows in which the joining and the invitation timer end, and
-// the strip that stands for a long time without an entry.
+// The time from one entry to the next: the bar of the state, the marks of the time axis, and the strip that stands for a long time without an entry.
 use crate::lanes::axis;
 use crate::lanes::lane;
-use crate::place::INVITED;
-use crate::place::JOINING;
 use crate::place::Place;
-use crate::place::RIGHT;
 use crate::place::STRIP;
 use crate::place::View;
-use crate::place::Watch;
 use crate::place::along;
 use crate::place::greater;
 use crate::place::is_cut;
 use crate::place::less;
 use crate::place::shown;
-use crate::place::smaller;
 use crate::place::sum;
-use crate::survey::tail;
+use crate::window::Band;
+use crate::window::draw_end;
+use crate::window::draw_windows;
+use crate::window::tail_time;
 use drawing::attribute;
 use drawing::begin_rectangle;
 use drawing::begin_text;
@@ -30,7 +27,6 @@ use drawing::write_form;
 use log_words::entry::write_clock;
 use log_words::entry::write_seconds;
 use saying::write_text;
-use timer::Window;
 
 // ---- the bar
 
@@ -104,104 +100,6 @@ fn draw_tick(descriptor: i32, view: View, y: u64, place: Place, tick: u64) {
     end_text(descriptor);
 }
 
-// ---- the timers
-
-// The parts of both windows that lie within the drawn time. `room` is where the lanes are free to.
-fn draw_windows(descriptor: i32, view: View, y: u64, place: Place, time: u64, room: u64) {
-    let invited = lane(view, y, INVITED);
-    draw_window(
-        descriptor,
-        view.scale,
-        invited,
-        place,
-        place.invitation,
-        view.invitation,
-        time,
-        room,
-    );
-    let joining = lane(view, y, JOINING);
-    draw_window(
-        descriptor,
-        view.scale,
-        joining,
-        place,
-        place.joining,
-        view.joining,
-        time,
-        room,
-    );
-}
-
-// That of one timer, by what is left of it; `top` is the top of its lane.
-fn draw_window(
-    descriptor: i32,
-    scale: u64,
-    top: u64,
-    place: Place,
-    watch: Watch,
-    window: Window,
-    time: u64,
-    room: u64,
-) {
-    let from = sum(watch.start, window.least);
-    let to = sum(watch.start, window.greatest);
-    let end = sum(place.time, time);
-    if !is_within(watch.seen, place.time, from, to, end) {
-        return;
-    }
-    let first = greater(from, place.time);
-    let x = sum(place.x, along(scale, less(first, place.time))) / 1000;
-    let behind = draw_hatched(descriptor, scale, top, x, first, smaller(to, end));
-    draw_bounds(descriptor, top, sum(behind, 4), room, window);
-}
-
-// The window from a time, which stands at `x`, to a time; answers where it ends along the axis.
-fn draw_hatched(descriptor: i32, scale: u64, top: u64, x: u64, first: u64, last: u64) -> u64 {
-    let width = greater(3, along(scale, less(last, first)) / 1000);
-    write_form(
-        descriptor,
-        b"<rect class=\"window\" x=\"#\" y=\"#\" width=\"#\" height=\"14\" data-from=\"#\" data-to=\"#\"/>\n",
-        &[x, sum(top, 2), width, first, last],
-    );
-    sum(x, width)
-}
-
-// A window of one instant belongs to the time that ends there.
-fn is_within(seen: bool, time: u64, from: u64, to: u64, end: u64) -> bool {
-    let instant = (from == to) & (from <= end);
-    seen & (time < to) & ((from < end) | instant)
-}
-
-// `least to greatest ms` behind the window, where there is room for it.
-fn draw_bounds(descriptor: i32, top: u64, x: u64, room: u64, window: Window) {
-    if room < sum(x, 108) {
-        return;
-    }
-    begin_text(descriptor, b"s", x, sum(top, 13));
-    write_bounds(descriptor, window);
-    end_text(descriptor);
-}
-
-pub(crate) fn write_bounds(descriptor: i32, window: Window) {
-    if window.least < window.greatest {
-        write_form(descriptor, b"# to # ms", &[window.least, window.greatest]);
-        return;
-    }
-    write_form(descriptor, b"# ms", &[window.least]);
-}
-
-// An invitation timer that ends exactly where a strip does: the time before it is not drawn, so it is drawn at the strip's end.
-fn draw_end(descriptor: i32, view: View, y: u64, before: Place, after: Place) {
-    let watch = before.invitation;
-    let window = view.invitation;
-    let ends = sum(watch.start, window.least) == after.time;
-    if watch.running & ends & (window.least == window.greatest) {
-        let top = lane(view, y, INVITED);
-        let x = after.x / 1000;
-        draw_hatched(descriptor, view.scale, top, x, after.time, after.time);
-    }
-}
-
 // ---- a long time without an entry
 
 // The strip ends at `end`; a jagged line on both sides says that the axis is cut.
@@ -237,41 +135,29 @@ fn draw_edge(descriptor: i32, x: u64, top: u64, lanes: u8) {
 
 pub(crate) fn draw_segment(
     descriptor: i32,
+    log: &[u8],
     view: View,
     y: u64,
     before: Place,
     after: Place,
-    delta: u64,
+    band: Band,
 ) {
+    let delta = less(after.time, before.time);
     let time = shown(before, delta);
-    let end = after.x / 1000;
     draw_ticks(descriptor, view, y, before, time);
     draw_bar(descriptor, view, y, before, after);
-    if !is_cut(delta) {
-        draw_windows(descriptor, view, y, before, time, end);
-        return;
-    }
-    draw_windows(descriptor, view, y, before, time, less(end, STRIP));
-    draw_strip(descriptor, view, y, end, delta);
-    draw_end(descriptor, view, y, before, after);
-}
-
-// How many milliseconds so many thousandths of a unit are.
-fn across(scale: u64, width: u64) -> u64 {
-    match scale {
-        80 => width / 80,
-        40 => width / 40,
-        20 => width / 20,
-        _ => width / 8,
+    draw_windows(descriptor, log, view, y, before, time, band);
+    if is_cut(delta) {
+        draw_strip(descriptor, view, y, after.x / 1000, delta);
+        draw_end(descriptor, view, y, before, after);
     }
 }
 
 // Behind the last entry the state goes on, nobody knows how long.
-pub(crate) fn draw_tail(descriptor: i32, view: View, y: u64, place: Place) {
-    let room = across(view.scale, less(RIGHT * 1000, place.x));
-    let time = smaller(tail(place, view.invitation), room);
+pub(crate) fn draw_tail(descriptor: i32, log: &[u8], view: View, y: u64, place: Place, band: Band) {
+    let time = tail_time(view, place);
     draw_ticks(descriptor, view, y, place, time);
-    draw_windows(descriptor, view, y, place, time, RIGHT);
+    draw_windows(descriptor, log, view, y, place, time, band);
     begin_rectangle(
         descriptor,
         b"open",

@@ -5,10 +5,10 @@ use Rattle.timeline.proofs.band.draw_entries.Statement.{statement}
 use Rattle.timeline.proofs.band.draw_entries.Tie as tie
 
 abbrev Inv-loop : tie.InvT-loop
-Inv-loop descriptor log view y last kind place₀ turns₀ place turns = turns ≤ 65536
+Inv-loop descriptor log view y band kind place₀ turns₀ place turns = turns ≤ 65536
 
 abbrev μ-loop : tie.MeasureT-loop
-μ-loop descriptor log view y last kind place₀ turns₀ place turns = turns
+μ-loop descriptor log view y band kind place₀ turns₀ place turns = turns
 
 pub draw-entries-spec : {M : Type 1} → statement M
 draw-entries-spec =

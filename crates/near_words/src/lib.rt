@@ -1,5 +1,14 @@
-// Which of the program's words are near a word: begun by it, or one letter changed, added or left out, or two neighbours swapped.
+// A word that there is none of, and which words are near it: begun by it, or one letter changed, added or left out, or two neighbours swapped.
 use saying::complain;
+use saying::shown::complain_name;
+
+pub fn complain_unknown(word: &[u8]) {
+    complain(b"heidezirkel: there is no word ");
+    complain_name(word);
+    complain(b"\n");
+    complain_near(word);
+    complain(b"heidezirkel --help lists the words\n");
+}
 
 // How many bytes two texts share at their start.
 fn shared_start(text: &[u8], other: &[u8]) -> usize {
@@ -49,7 +58,7 @@ fn complain_if_near(word: &[u8], known: &[u8]) {
     }
 }
 
-pub(crate) fn complain_near(word: &[u8]) {
+fn complain_near(word: &[u8]) {
     complain_if_near(word, b"judge");
     complain_if_near(word, b"ignored");
     complain_if_near(word, b"show");
@@ -60,4 +69,5 @@ pub(crate) fn complain_near(word: &[u8]) {
     complain_if_near(word, b"timeline");
     complain_if_near(word, b"probe");
     complain_if_near(word, b"--help");
+    complain_if_near(word, b"--version");
 }
