@@ -13,6 +13,7 @@ use help_words::tell_word_help;
 use ignored_words::run_ignored;
 use judge_words::run_judge;
 use log_words::show::run_show;
+use mend_words::run_mend;
 use message_words::tell_apart;
 use saying::complain;
 use saying::tell_verdict;
@@ -67,6 +68,9 @@ fn run(word: &[u8]) -> u8 {
     }
     if same(word, b"ignored") {
         return run_ignored();
+    }
+    if same(word, b"mend") {
+        return run_mend();
     }
     if same(word, b"show") {
         return run_show();

@@ -19,6 +19,7 @@ fn write_help(descriptor: i32) {
           Group calls with talk-back, 24.068, too.\n  \
           judge SETTINGS LOG          says whether a log is what a radio does, and with which timers\n  \
           ignored SETTINGS LOG        lists the messages that the radio ignored, each with the reason\n  \
+          mend SETTINGS LOG COPY      writes a copy of a damaged log, as far as the judge accepts it\n  \
           show LOG                    says what a log holds, a line an entry\n  \
           record SETTINGS SCRIPT LOG  makes a log from a script of events\n  \
           pcap LOG FILE               makes a capture file of a log's messages, for Wireshark\n  \

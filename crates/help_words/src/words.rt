@@ -19,7 +19,7 @@ fn tell_probe_help() {
           octets are lower-case hexadecimal, - for none; numbers are decimal. A line that is no command: ?\n  \
           read OCTETS                            6, or 13 FAULT, or 0 FLAG VALUE KIND FIELDS..\n  \
           write LENGTH FLAG VALUE KIND FIELDS..  5, or 4, or 0 OCTETS\n  \
-          step, settings, judge, record          as docs/PROBE.md has them\n  \
+          step, settings, judge, record, mend    as docs/PROBE.md has them\n  \
           gread, gwrite, gstep, grecord          the same of a group call\n\
           KIND and FIELDS: connect REFERENCE ORIGINATOR, get_status IDENTITY,\n  \
           immediate_setup KEY CLASSMARK IDENTITY REFERENCE, set_parameter ATTRIBUTES, setup REFERENCE,\n  \
@@ -76,6 +76,17 @@ fn tell_ignored_help() {
     );
 }
 
+fn tell_mend_help() {
+    tell(
+        b"usage: heidezirkel mend SETTINGS LOG COPY\n\
+          Writes the longest run of entries from the log's start that the judge accepts to a new file COPY, byte for byte as it stands in the\n\
+          log, and tells how many entries are kept and how many bytes dropped; then what the judge says of the log, and so what ended the run.\n\
+          The judge accepts COPY. An accepted log is copied whole. Where the version can't be read, COPY is a log of version 1 without entries.\n\
+          LOG stays as it is, and COPY must not be there yet. A settings file that is refused stops it at its line.\n\
+          Exit status: 0 the copy is written, whatever was dropped, 1 it is refused and nothing is written, 2 a file can't be opened or made.\n",
+    );
+}
+
 fn tell_pcap_help() {
     tell(
         b"usage: heidezirkel pcap LOG FILE\n\
@@ -126,6 +137,10 @@ pub(crate) fn tell_help_of(word: &[u8]) -> bool {
     }
     if same(word, b"ignored") {
         tell_ignored_help();
+        return true;
+    }
+    if same(word, b"mend") {
+        tell_mend_help();
         return true;
     }
     if same(word, b"show") {

@@ -31,7 +31,7 @@ pub fn run_judge() -> u8 {
 }
 
 // Judges a log by the settings of a radio, and answers the verdict.
-fn tell_judged(settings: Settings, log: &[u8]) -> u8 {
+pub fn tell_judged(settings: Settings, log: &[u8]) -> u8 {
     let identity = settings.identity;
     let count = settings.count;
     let own = own_of(settings);

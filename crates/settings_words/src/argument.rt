@@ -78,6 +78,11 @@ pub fn settings_and_log(word: &[u8], log: &mut [u8]) -> Ready {
     if !has_arguments(2, word, b"two arguments, a settings file and a log") {
         return stopped(2);
     }
+    settings_before_log(word, log)
+}
+
+// The settings file and the log that are the first two arguments of a word.
+pub fn settings_before_log(word: &[u8], log: &mut [u8]) -> Ready {
     let fitted = settings_argument(word);
     let settings = fitted.settings;
     if fitted.verdict != 0 {
