@@ -6,8 +6,8 @@ use fields::words::octets_word;
 use forms::take_words;
 use judge_command::say_part;
 use mend::Ending;
-use mend::Mend;
 use mend::Mended;
+use mend::Report;
 use saying::say;
 use saying::say_hex;
 use step_command::settings_of;
@@ -80,15 +80,15 @@ fn say_mended(buffer: &mut [u8], output: Output, mended: Mended, copy: &[u8]) ->
         Mended::TooLong => say(buffer, output, b"10\n"),
         Mended::OutOfRange => say(buffer, output, b"4\n"),
         Mended::NoRoom => say(buffer, output, b"5\n"),
-        Mended::Done(mend) => say_done(buffer, output, mend, copy),
+        Mended::Done(report) => say_done(buffer, output, report, copy),
     }
 }
 
-fn say_done(buffer: &mut [u8], output: Output, mend: Mend, copy: &[u8]) -> Output {
-    let kept = say_part(buffer, output, b"0 ", mend.kept as u64);
-    let dropped = say_part(buffer, kept, b" ", mend.dropped as u64);
-    let ended = say_ending(buffer, dropped, mend.ending);
-    let length = mend.length;
+fn say_done(buffer: &mut [u8], output: Output, report: Report, copy: &[u8]) -> Output {
+    let kept = say_part(buffer, output, b"0 ", report.kept as u64);
+    let dropped = say_part(buffer, kept, b" ", report.dropped as u64);
+    let ended = say_ending(buffer, dropped, report.ending);
+    let length = report.length;
     let copied = say_hex(buffer, ended, part(copy, 0, length));
     say(buffer, copied, b"\n")
 }

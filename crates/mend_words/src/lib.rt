@@ -4,8 +4,8 @@ use filing::arguments::has_arguments;
 use filing::log_room;
 use filing::write_file;
 use judge_words::tell_judged;
-use mend::Mend;
 use mend::Mended;
+use mend::Report;
 use replay::own_of;
 use saying::tell;
 use saying::tell_count;
@@ -39,39 +39,39 @@ fn mend_log(settings: Settings, log: &[u8]) -> u8 {
     let own = own_of(settings);
     let mut copy = log_room();
     let mended = mend::mend(own, part(&identity, 0, count), log, &mut copy);
-    let Mended::Done(mend) = mended else {
+    let Mended::Done(report) = mended else {
         tell(b"refused (answer 10): the log has over 65,536 bytes; mend a shorter one\n");
         return 1;
     };
-    let length = mend.length;
-    file_copy(settings, mend, part(&copy, 0, length), log)
+    let length = report.length;
+    file_copy(settings, report, part(&copy, 0, length), log)
 }
 
 // Writes the copy to the file that the third argument names, and answers the verdict: a copy that is written is fine, whatever was dropped.
-fn file_copy(settings: Settings, mend: Mend, copy: &[u8], log: &[u8]) -> u8 {
+fn file_copy(settings: Settings, report: Report, copy: &[u8], log: &[u8]) -> u8 {
     let mut name = io::buffer();
     let length = os::arg(4, &mut name);
     if !write_file(b"mend", part(&name, 0, length), copy) {
         return 2;
     }
     tell(part(&name, 0, length));
-    tell_kept(mend, log.len());
+    tell_kept(report, log.len());
     tell_judged(settings, log);
     0
 }
 
 // What was kept and dropped. The copy and what was dropped make up the log but where its version can't be read: the copy of such a log has a version of its own.
-fn tell_kept(mend: Mend, size: usize) {
+fn tell_kept(report: Report, size: usize) {
     tell(b": ");
-    tell_count(mend.kept, b" entry kept, ", b" entries kept, ");
-    tell_count(mend.length, b" byte\n", b" bytes\n");
-    if std::num::wrapping_add_usize(mend.length, mend.dropped) != size {
+    tell_count(report.kept, b" entry kept, ", b" entries kept, ");
+    tell_count(report.length, b" byte\n", b" bytes\n");
+    if std::num::wrapping_add_usize(report.length, report.dropped) != size {
         tell(b"the version can't be read, so the copy is a log of version 1 without entries\n");
     }
-    if mend.dropped == 0 {
+    if report.dropped == 0 {
         tell(b"nothing");
     } else {
-        tell_count(mend.dropped, b" byte", b" bytes");
+        tell_count(report.dropped, b" byte", b" bytes");
     }
     tell(b" dropped; the judge says of the log:\n");
 }
