@@ -1,4 +1,5 @@
-// The messages that a radio ignored, and why: a log is walked through as the judge does, and what the step says of each entry up to there is listed.
+// The messages that a radio ignored, and why: a log is walked through as the judge does, and what the step says of each entry up to there is listed. The walk keeps no
+// reasons, so the listing takes each of these entries through its step once more.
 mod listing;
 mod reason;
 
@@ -32,12 +33,6 @@ pub fn run_ignored() -> u8 {
 
 // Lists the ignored messages of a log, and answers the verdict: 0 where the whole log is what the radio does.
 fn tell_ignored(settings: Settings, log: &[u8]) -> u8 {
-    if version::LONGEST < log.len() {
-        tell(
-            b"the log is refused: it has over 65,536 bytes (answer 10), and nothing of it is listed; see heidezirkel judge\n",
-        );
-        return 1;
-    }
     let identity = settings.identity;
     let count = settings.count;
     tell_walked(own_of(settings), part(&identity, 0, count), log)
@@ -46,12 +41,46 @@ fn tell_ignored(settings: Settings, log: &[u8]) -> u8 {
 fn tell_walked(own: Own, identity: &[u8], log: &[u8]) -> u8 {
     let walked = walk(own, identity, log);
     let track = walked.track;
-    let end = walked.end;
     let entries = track.entries;
+    let number = std::num::wrapping_add_usize(entries, 1);
+    let end = walked.end;
+    match end {
+        End::Finished => {
+            tell_listed(own, identity, log, entries);
+            0
+        }
+        End::TooLong => tell_unlisted(b"it has over 65,536 bytes (answer 10)"),
+        End::OutOfRange => tell_unlisted(b"the settings are out of range (answer 4)"),
+        End::NoVersion => tell_listed_to(own, identity, log, entries, 0),
+        End::Torn(_) => tell_listed_to(own, identity, log, entries, number),
+        End::Stuck(_) => tell_listed_to(own, identity, log, entries, number),
+        End::Astray => tell_listed_to(own, identity, log, entries, number),
+        End::Paused => tell_listed_to(own, identity, log, entries, number),
+    }
+}
+
+// A log that is refused before its first octet is read.
+fn tell_unlisted(why: &[u8]) -> u8 {
+    tell(b"the log is refused: ");
+    tell(why);
+    tell(b", and nothing of it is listed; see heidezirkel judge\n");
+    1
+}
+
+// The list of the entries that are explained.
+fn tell_listed(own: Own, identity: &[u8], log: &[u8], entries: usize) {
     let counts = list(own, identity, log, entries);
     tell_counts(&counts, entries);
     tell_version(log);
-    tell_end(end, std::num::wrapping_add_usize(entries, 1))
+}
+
+// The same of a log that is refused at the entry of this number, which is the one behind them, or at its version.
+fn tell_listed_to(own: Own, identity: &[u8], log: &[u8], entries: usize, number: usize) -> u8 {
+    tell_listed(own, identity, log, entries);
+    tell(b"the log is refused at entry ");
+    tell_place(number);
+    tell(b", and nothing is listed from there on; see heidezirkel judge\n");
+    1
 }
 
 // How many messages were ignored for each reason. The first count is of the other entries.
@@ -82,23 +111,4 @@ fn tell_counted(counts: &[usize; 7], reason: u8)
     tell(b": ");
     tell_place(counts[reason as usize]);
     tell(b"\n");
-}
-
-// Where the log is refused: at the entry of this number, which is the one behind those that are explained, or at its version.
-fn tell_end(end: End, number: usize) -> u8 {
-    match end {
-        End::Finished => 0,
-        End::NoVersion => tell_refused(0),
-        End::Torn(_) => tell_refused(number),
-        End::Stuck(_) => tell_refused(number),
-        End::Astray => tell_refused(number),
-        End::Paused => tell_refused(number),
-    }
-}
-
-fn tell_refused(number: usize) -> u8 {
-    tell(b"the log is refused at entry ");
-    tell_place(number);
-    tell(b", and nothing is listed from there on; see heidezirkel judge\n");
-    1
 }

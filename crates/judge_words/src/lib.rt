@@ -3,6 +3,8 @@
 mod refusal;
 
 use filing::log_room;
+use judge::Examined;
+use judge::examine;
 use log_words::entry::tell_long;
 use log_words::tell_version;
 use message::Own;
@@ -35,8 +37,8 @@ fn tell_judged(settings: Settings, log: &[u8]) -> u8 {
     let identity = settings.identity;
     let count = settings.count;
     let own = own_of(settings);
-    let judged = judge::judge(own, part(&identity, 0, count), log);
-    let verdict = tell_verdict_on(settings, own, part(&identity, 0, count), log, judged);
+    let examined = examine(own, part(&identity, 0, count), log);
+    let verdict = tell_verdict_on(settings, own, part(&identity, 0, count), log, examined);
     tell_version(log);
     verdict
 }
@@ -46,8 +48,10 @@ fn tell_verdict_on(
     own: Own,
     identity: &[u8],
     log: &[u8],
-    judged: Judged,
+    examined: Examined,
 ) -> u8 {
+    let judged = examined.judged;
+    let walked = examined.walked;
     match judged {
         Judged::Accepted(entries, joining, invitation) => {
             tell_accepted(entries, joining, invitation);
@@ -67,14 +71,14 @@ fn tell_verdict_on(
             tell(b"refused (answer 8): entry ");
             tell_place(entry);
             tell(b" can't be read\n");
-            tell_refusal(own, identity, log);
+            tell_refusal(own, identity, log, walked);
             1
         }
         Judged::Unexplained(entry) => {
             tell(b"refused (answer 9): up to entry ");
             tell_place(entry);
             tell(b" no timer explains the log\n");
-            tell_refusal(own, identity, log);
+            tell_refusal(own, identity, log, walked);
             1
         }
     }
