@@ -87,7 +87,8 @@ fn say_mended(buffer: &mut [u8], output: Output, mended: Mended, copy: &[u8]) ->
 fn say_done(buffer: &mut [u8], output: Output, report: Report, copy: &[u8]) -> Output {
     let kept = say_part(buffer, output, b"0 ", report.kept as u64);
     let dropped = say_part(buffer, kept, b" ", report.dropped as u64);
-    let ended = say_ending(buffer, dropped, report.ending);
+    let ending = report.ending;
+    let ended = say_ending(buffer, dropped, ending);
     let length = report.length;
     let copied = say_hex(buffer, ended, part(copy, 0, length));
     say(buffer, copied, b"\n")
