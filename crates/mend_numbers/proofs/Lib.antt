@@ -1,2 +1,2 @@
-pub mod Mended
+pub mod Calls
 pub mod Coincide

@@ -52,13 +52,16 @@ fn mending_of(mended: Mended) -> Mending
         Mended::TooLong => refused_with(answer::LONG_LOG),
         Mended::OutOfRange => refused_with(answer::OUT_OF_RANGE),
         Mended::NoRoom => refused_with(answer::SHORT_BUFFER),
-        Mended::Done(mend) => Mending {
-            answer: answer::TAKEN,
-            kept: mend.kept,
-            dropped: mend.dropped,
-            ending: ending_number(mend.ending),
-            length: mend.length,
-        },
+        Mended::Done(report) => {
+            let ending = report.ending;
+            Mending {
+                answer: answer::TAKEN,
+                kept: report.kept,
+                dropped: report.dropped,
+                ending: ending_number(ending),
+                length: report.length,
+            }
+        }
     }
 }
 
