@@ -38,6 +38,20 @@ static void judge_twin(const struct work *work)
         sink += twin_judge(bench_settings, work->first[i].bytes, work->first[i].used).entry;
 }
 
+static uint8_t copy[HEIDEZIRKEL_LOG_OCTETS + 1];
+
+static void mend_ours(const struct work *work)
+{
+    for (size_t i = 0; i < work->count; i++)
+        sink += heidezirkel_mend(bench_settings, work->first[i].bytes, work->first[i].used, copy, sizeof copy).length;
+}
+
+static void mend_twin(const struct work *work)
+{
+    for (size_t i = 0; i < work->count; i++)
+        sink += twin_mend(bench_settings, work->first[i].bytes, work->first[i].used, copy, sizeof copy).length;
+}
+
 typedef struct heidezirkel_step step_function(uint8_t *, const uint8_t *, struct heidezirkel_event, const uint8_t *, size_t, uint8_t *, size_t);
 
 static inline void all_steps(step_function *step, const struct logs *of)
@@ -121,12 +135,26 @@ static void count_left(size_t counts[LEAVINGS], uint32_t least, uint32_t greates
     counts[least == greatest ? ONE_LENGTH : least > least_of_all ? FROM_ONE_ON : ANY_LENGTH]++;
 }
 
+/* Mended into a buffer as long as the log, with every octet of the buffer. */
+static void same_mending(const char *what, size_t place, const uint8_t *log, size_t length)
+{
+    static uint8_t other[HEIDEZIRKEL_LOG_OCTETS + 1];
+    memset(copy, 0xee, length + 1);
+    memset(other, 0xee, length + 1);
+    struct heidezirkel_mending ours = heidezirkel_mend(bench_settings, log, length, copy, length);
+    struct heidezirkel_mending twin = twin_mend(bench_settings, log, length, other, length);
+    if (ours.answer != twin.answer || ours.kept != twin.kept || ours.dropped != twin.dropped || ours.ending != twin.ending || ours.length != twin.length
+        || memcmp(copy, other, length + 1) != 0)
+        differ(what, place);
+}
+
 static struct heidezirkel_judgement both_judge(const char *what, size_t place, const uint8_t *log, size_t length)
 {
     struct heidezirkel_judgement ours = heidezirkel_judge(bench_settings, log, length);
     struct heidezirkel_judgement twin = twin_judge(bench_settings, log, length);
     if (!alike(&ours, &twin))
         differ(what, place);
+    same_mending(what, place, log, length);
     if (twin.answer == HEIDEZIRKEL_TAKEN) {
         count_left(joinings, twin.least_ms, twin.greatest_ms, 10000);
         if (log[0] == THIRD)
@@ -364,6 +392,20 @@ static double show_judge(const char *name, const struct log *first, size_t count
     return show(name, &ours, &twin, bytes_of(&ours), "ns a byte", least);
 }
 
+static void show_mend(const char *name, const struct log *first, size_t count, double least)
+{
+    struct work ours = {mend_ours, first, count}, twin = {mend_twin, first, count};
+    show(name, &ours, &twin, bytes_of(&ours), "ns a byte", least);
+}
+
+static void show_mends(double least)
+{
+    show_mend("mend, 4 KiB, true", broadcast.whole.small, broadcast.whole.smalls, least);
+    show_mend("mend, 64 KiB, true", &broadcast.whole.large, 1, least);
+    show_mend("mend, 64 KiB, last entry unreadable", &broadcast.cut.large, 1, least);
+    show_mend("group: mend, 64 KiB, true", &group.whole.large, 1, least);
+}
+
 static void show_steps(double least)
 {
     struct work ours = {step_ours, NULL, 0}, twin = {step_twin, NULL, 0};
@@ -419,6 +461,7 @@ static void show_all(double least)
     show_judge("judge, 64 KiB, version 2, true", &second.large, 1, least);
     show_judge("judge, 64 KiB, version 1, true", &first.large, 1, least);
     show_protocol("group: ", &group, least);
+    show_mends(least);
     show_steps(least);
     show_numbers(least);
 }
@@ -479,6 +522,8 @@ static int count_one(const char *what, long passes)
         {"judge-twin", {judge_twin, &broadcast.whole.large, 1}},
         {"group-judge-ours", {judge_ours, &group.whole.large, 1}},
         {"group-judge-twin", {judge_twin, &group.whole.large, 1}},
+        {"mend-ours", {mend_ours, &broadcast.whole.large, 1}},
+        {"mend-twin", {mend_twin, &broadcast.whole.large, 1}},
         {"step-ours", {step_ours, NULL, 0}},
         {"step-twin", {step_twin, NULL, 0}},
         {"group-step-ours", {group_step_ours, NULL, 0}},

@@ -182,6 +182,50 @@ static void try_log(const struct judged *given)
     failures++;
 }
 
+/* A log that is mended into a copy buffer of so many octets. */
+static const struct mended {
+    const char *log;
+    size_t room;
+    struct heidezirkel_mending expected;
+    const char *copy; /* and the buffer behind it as it was */
+} mended[] = {
+    /* The buffer: as long as the log, one octet less; an empty log wants one octet. */
+    {"", 0, {.answer = 5}, ""},
+    {"", 1, {0, 0, 0, 8, 1}, "01"},
+    {"03", 0, {.answer = 5}, ""},
+    {"03", 1, {0, 0, 0, 0, 1}, "03"},
+    {"03 00" CALLED, 12, {.answer = 5}, ""},
+    {"03 00" CALLED, 13, {0, 1, 0, 0, 13}, "03 00" CALLED},
+    /* No version: all is dropped. */
+    {"04 00" CALLED, 13, {0, 0, 13, 8, 1}, "01"},
+    {"8300", 2, {0, 0, 2, 8, 1}, "01"},
+    /* Entry 1 is bad, and the version stays: cut short, a longer form of a number, not in time. */
+    {"01 00", 9, {0, 0, 1, 8, 1}, "01"},
+    {"02 8000", 9, {0, 0, 2, 8, 1}, "02"},
+    {"03 00 0a 01 0a0b0c0d 00 05 00 01 00", 20, {0, 0, 12, 9, 1}, "03"},
+    {"10 00 13 00 00 00 00 00", 8, {0, 0, 7, 8, 1}, "10"},
+    /* A later one: cut short, and one that leaves no timer, with good ones behind it. */
+    {"03 00" CALLED MS_1000 FORGET "00", 30, {0, 2, 1, 8, 21}, "03 00" CALLED MS_1000 FORGET},
+    {"03 00" CALLED MS_1000 FORGET "00" CALLED MS_999 FORGET "00" CALLED, 60, {0, 3, 20, 9, 33}, "03 00" CALLED MS_1000 FORGET "00" CALLED},
+    {G_LISTENING "00" G_LOST MS_2999 G_GIVE_UP, 64, {0, 4, 8, 9, 34}, G_LISTENING "00" G_LOST},
+};
+
+static void try_mend(const struct mended *given)
+{
+    uint8_t log[256], copy[256], expected_copy[256];
+    size_t length = read_hex(given->log, log);
+    memset(copy, 0xee, sizeof copy);
+    memset(expected_copy, 0xee, sizeof expected_copy);
+    read_hex(given->copy, expected_copy);
+    struct heidezirkel_mending expected = given->expected;
+    struct heidezirkel_mending found = twin_mend(log[0] == GROUP ? group_settings : settings, log, length, copy, given->room);
+    if (found.answer == expected.answer && found.kept == expected.kept && found.dropped == expected.dropped && found.ending == expected.ending
+        && found.length == expected.length && memcmp(copy, expected_copy, sizeof copy) == 0)
+        return;
+    printf("the twin's mending: %s: %u %zu %zu %u %zu\n", given->log, found.answer, found.kept, found.dropped, found.ending, found.length);
+    failures++;
+}
+
 /* A step without a message, from one context to another; refused, to the same. */
 static const struct stepped {
     uint8_t before[16];
@@ -334,12 +378,14 @@ int main(void)
     uint8_t context[16];
     for (size_t i = 0; i < sizeof judged / sizeof *judged; i++)
         try_log(&judged[i]);
+    for (size_t i = 0; i < sizeof mended / sizeof *mended; i++)
+        try_mend(&mended[i]);
     for (size_t i = 0; i < sizeof stepped / sizeof *stepped; i++)
         try_step(&stepped[i]);
     for (size_t i = 0; i < sizeof walked / sizeof *walked; i++)
         try_group_step(&walked[i], context);
     if (failures > 0)
         printf("the twins err on %d of %zu logs and steps that were worked out by hand\n", failures,
-            sizeof judged / sizeof *judged + sizeof stepped / sizeof *stepped + sizeof walked / sizeof *walked);
+            sizeof judged / sizeof *judged + sizeof mended / sizeof *mended + sizeof stepped / sizeof *stepped + sizeof walked / sizeof *walked);
     return failures > 0;
 }

@@ -1,4 +1,4 @@
-/* twin.h: the plain C twins of the judge, the step and the number reader, against which ours are timed. They were written from documents 01 and 02 and
+/* twin.h: the plain C twins of the judge, of mending, of the step and of the number reader, against which ours are timed. They were written from documents 01 and 02 and
  * the standard, take and give what heidezirkel.h says, and share nothing with ours but that header. */
 #ifndef TWIN_H
 #define TWIN_H
@@ -67,6 +67,7 @@ struct heidezirkel_step twin_group_step(uint8_t context[16], const uint8_t setti
 
 struct heidezirkel_number twin_read_number(const uint8_t *octets, size_t length, size_t at);
 struct heidezirkel_judgement twin_judge(const uint8_t settings[21], const uint8_t *log, size_t length);
+struct heidezirkel_mending twin_mend(const uint8_t settings[21], const uint8_t *log, size_t length, uint8_t *copy, size_t room);
 
 /* Writes the entry of a step by a table behind `used` bytes, and gives the bytes used then. There is room. */
 size_t twin_record(enum twin_table table, uint8_t *log, size_t used, uint32_t delta, const struct heidezirkel_event *event, const uint8_t *message,

@@ -60,7 +60,7 @@ enum {
     HEIDEZIRKEL_REPORTED = 2,          /* message reported: the reply is a STATUS that says why; the context is unchanged */
     HEIDEZIRKEL_NO_STEP = 3,           /* the event has no step in this state */
     HEIDEZIRKEL_OUT_OF_RANGE = 4,      /* an argument is outside its range */
-    HEIDEZIRKEL_SHORT_BUFFER = 5,      /* the buffer for a message is under 255 octets */
+    HEIDEZIRKEL_SHORT_BUFFER = 5,      /* the buffer for a message is under 255 octets, or that for a copy is shorter than the log */
     HEIDEZIRKEL_LONG_MESSAGE = 6,      /* the received message is over 251 octets */
     HEIDEZIRKEL_NO_CONTEXT = 7,        /* the context is not fit, or no context at all: clear it */
     HEIDEZIRKEL_UNREADABLE_LOG = 8,    /* the log can't be read, with the entry's number */
@@ -390,6 +390,22 @@ struct heidezirkel_judgement {
  * invitation timer from the least to the greatest. Versions 1, 2 and 16 have no invitation timer: both its numbers are 0, and event 19 can't be read
  * there. */
 struct heidezirkel_judgement heidezirkel_judge(const uint8_t settings[21], const uint8_t *log, size_t length);
+
+struct heidezirkel_mending {
+    uint32_t answer; /* 0, 4, 5 or 10 */
+    size_t kept;     /* of 0: how many entries the copy holds; else 0 */
+    size_t dropped;  /* of 0: how many bytes of the log it does not hold; else 0 */
+    uint32_t ending; /* of 0: the judge's answer on the log, which ended the run: 0, 8 or 9; else 0 */
+    size_t length;   /* of 0: how many bytes were written at the start of the copy's buffer; else 0 */
+};
+
+/* Mends a damaged log of `length` bytes: writes a copy that holds the longest run of entries from its start that the judge accepts under these settings, byte
+ * for byte as they stood. So an accepted log comes back unchanged, with 0 dropped; the copy is always accepted, with `kept` entries and by the version of the
+ * log; and mending a copy changes nothing. What ended the run (8 or 9) happened at entry kept + 1 of the log.
+ * Where the version can't be read, as in a log of 0 bytes, nothing is kept, every byte is dropped, and the copy is the one byte 1.
+ * Answers 10 for over 65,536 bytes, then 4 for settings out of range, then 5 for a `room` under `length`, or of 0, each with nothing written; else 0. Only the
+ * first mending.length octets of the copy's buffer are changed. The log and the buffer must not overlap: a log is not mended in place. */
+struct heidezirkel_mending heidezirkel_mend(const uint8_t settings[21], const uint8_t *log, size_t length, uint8_t *copy, size_t room);
 
 struct heidezirkel_number {
     uint32_t answer; /* 0, or 8 where no number stands there */

@@ -12,7 +12,7 @@ build_second() {
 }
 
 # The command words of the line protocol, which both programs have.
-words="read write step settings judge record gread gwrite gstep grecord"
+words="read write step settings judge record gread gwrite gstep grecord mend"
 
 # The fixed sets of vectors: one for each word, and the logs of group calls.
 sets="$words judge16"

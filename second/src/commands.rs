@@ -46,6 +46,10 @@ pub fn judge(own: &Identity, log: &[u8]) -> String {
     format!("judge {own} {}", hexadecimal(log))
 }
 
+pub fn mend(own: &Identity, buffer_length: u32, log: &[u8]) -> String {
+    format!("mend {own} {buffer_length} {}", hexadecimal(log))
+}
+
 /// A step as a command hands it in; the state may be none, and so may the one
 /// remembered and the chooser.
 #[derive(Clone, PartialEq, Eq, Debug)]

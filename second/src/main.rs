@@ -40,7 +40,7 @@ usage: second probe
        second vectors SET
            prints one of the fixed sets of commands
        second --help
-words: read write step settings judge record gread gwrite gstep grecord
+words: read write step settings judge record gread gwrite gstep grecord mend
 sets: the words, and judge16 for the logs of group calls
 ";
 

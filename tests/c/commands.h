@@ -16,6 +16,7 @@ bool record_command(struct line *line, enum call call);
 /* Settings and logs are of any call. */
 bool settings_command(struct line *line, enum call call);
 bool judge_command(struct line *line, enum call call);
+bool mend_command(struct line *line, enum call call);
 
 /* The words KEY CLASSMARK IDENTITY as settings octets; those behind the identity, and the timers', hold what may be anything. */
 void settings_words(struct line *line, uint8_t settings[HEIDEZIRKEL_SETTINGS_OCTETS]);

@@ -40,4 +40,6 @@ bool refuses(struct heidezirkel_judgement judged, uint32_t answer, size_t entry)
 void check_invitations(void);
 /* groups.c */
 void check_groups(void);
+/* mending.c */
+void check_mending(void);
 #endif

@@ -1,5 +1,5 @@
 /* promises: what the line protocol can't show of the C library: octets that are no context, the octets and the faults of a settings file, a call that is recorded
- * and judged; and what invitations.c and groups.c have.
+ * and judged; and what invitations.c, groups.c and mending.c have.
  * The expected values are worked out by hand from documents 01 and 02. Status 1, and a line on standard error for each, where one is not as promised. */
 #include "played.h"
 #include <stdio.h>
@@ -296,6 +296,7 @@ int main(void) {
     check_judged(&recording);
     check_invitations();
     check_groups();
+    check_mending();
     check_settings();
     check_numbers();
     give_back(&recording.log);

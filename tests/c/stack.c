@@ -5,9 +5,9 @@
 #include "heidezirkel.h"
 #include "painted.h"
 
-enum { MOST = 2048, ROUNDS = 20000, OFTEN = 11, CALLS = 14 };
+enum { MOST = 2048, ROUNDS = 20000, OFTEN = 12, CALLS = 15 };
 
-static uint8_t context[16], settings[HEIDEZIRKEL_SETTINGS_OCTETS], octets[256], reply[255], log_bytes[4096];
+static uint8_t context[16], settings[HEIDEZIRKEL_SETTINGS_OCTETS], octets[256], reply[255], log_bytes[4096], copy_bytes[4096];
 static size_t used;
 static struct heidezirkel_event event;
 static struct heidezirkel_step done;
@@ -41,6 +41,7 @@ static void fresh(void) {
 static void call_nothing(void) {}
 static void call_step(void) { done = heidezirkel_step(context, settings, event, octets, random_below(252), reply, sizeof reply); }
 static void call_judge(void) { (void)heidezirkel_judge(settings, log_bytes, used); }
+static void call_mend(void) { (void)heidezirkel_mend(settings, log_bytes, used, copy_bytes, sizeof copy_bytes); }
 static void call_record(void) {
     used = heidezirkel_record(log_bytes, sizeof log_bytes, used, 0, event, octets, 251, done, context, reply, done.reply_length).used;
 }
@@ -84,7 +85,7 @@ int main(void) {
     static const struct {
         const char *name;
         void (*call)(void);
-    } calls[] = {{"step", call_step}, {"record", call_record}, {"judge", call_judge}, {"read_number", call_number}, {"read_settings", call_settings},
+    } calls[] = {{"step", call_step}, {"record", call_record}, {"judge", call_judge}, {"mend", call_mend}, {"read_number", call_number}, {"read_settings", call_settings},
         {"read_message", call_read}, {"write_message", call_write}, {"group_step", call_group_step}, {"group_record", call_group_record},
         {"group_read_message", call_group_read}, {"group_write_message", call_group_write}, {"begin_log", call_begin},
         {"group_begin_log", call_group_begin}, {"clear", call_clear}};
@@ -95,7 +96,7 @@ int main(void) {
     for (round = 0; round < ROUNDS; round++) {
         fresh();
         for (k = 0; k < OFTEN; k++) {
-            if (k == 2 && round % 64) continue; /* the log is judged while it grows */
+            if ((k == 2 || k == 3) && round % 64) continue; /* the log is judged and mended while it grows */
             took = painted(calls[k].call);
             if (took > most[k]) most[k] = took;
         }

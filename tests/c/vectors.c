@@ -12,7 +12,7 @@ static const struct command {
     {"read", read_command, BROADCAST},   {"write", write_command, BROADCAST},       {"step", step_command, BROADCAST},
     {"record", record_command, BROADCAST}, {"settings", settings_command, BROADCAST}, {"judge", judge_command, BROADCAST},
     {"gread", read_command, GROUP},      {"gwrite", write_command, GROUP},          {"gstep", step_command, GROUP},
-    {"grecord", record_command, GROUP},
+    {"grecord", record_command, GROUP},   {"mend", mend_command, BROADCAST},
 };
 
 static bool answer(const char *text, size_t length, uint8_t *room) {

@@ -225,6 +225,16 @@ pub fn close_file(word: &[u8], path: &[u8], descriptor: i32, whole: bool) -> boo
     false
 }
 
+// Makes a new file with these octets, whole or not at all.
+pub fn write_file(word: &[u8], path: &[u8], octets: &[u8]) -> bool {
+    let descriptor = create_file(word, path);
+    if descriptor < 0 {
+        return false;
+    }
+    let whole = io::write_all(descriptor, octets);
+    close_file(word, path, descriptor, whole)
+}
+
 // A byte more than a log may have, so that a longer one is told.
 pub fn log_room() -> [u8; 65537]
     ensures { λ r. ⌜ 65537 ≡ length r ⌝ }

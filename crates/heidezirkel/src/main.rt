@@ -8,6 +8,7 @@ use filing::arguments::argument_count;
 use filing::ending::tell_verdict;
 use judge_words::run_judge;
 use log_words::show::run_show;
+use mend_words::run_mend;
 use message_words::tell_apart;
 use near_words::complain_unknown;
 use saying::complain;
@@ -39,6 +40,9 @@ fn run(word: &[u8]) -> u8 {
     }
     if same(word, b"judge") {
         return run_judge();
+    }
+    if same(word, b"mend") {
+        return run_mend();
     }
     if same(word, b"show") {
         return run_show();

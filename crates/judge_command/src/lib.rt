@@ -77,7 +77,7 @@ fn say_entry(buffer: &mut [u8], output: Output, answer: &[u8], entry: usize) -> 
 }
 
 // A number and what stands before it.
-fn say_part(buffer: &mut [u8], output: Output, before: &[u8], number: u64) -> Output {
+pub fn say_part(buffer: &mut [u8], output: Output, before: &[u8], number: u64) -> Output {
     let start = say(buffer, output, before);
     say_decimal(buffer, start, number)
 }

@@ -5,6 +5,7 @@ pub mod Unique
 pub mod Reading
 pub mod Walk
 pub mod Points
+pub mod Runs
 pub mod Start
 pub mod TwoTimers
 pub mod NeverRuns

@@ -48,7 +48,7 @@ fn options(strict: bool) -> usize {
 }
 
 // Judges a log by the settings of a radio, and answers the verdict. A strict one wants the timers of the settings among those that explain the log.
-fn tell_judged(strict: bool, settings: Settings, log: &[u8]) -> u8 {
+pub fn tell_judged(strict: bool, settings: Settings, log: &[u8]) -> u8 {
     let examined = examine_by(settings, log);
     let verdict = tell_examined(strict, settings, log, examined);
     tell_version(log);

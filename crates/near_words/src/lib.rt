@@ -61,6 +61,7 @@ fn complain_if_near(word: &[u8], known: &[u8]) {
 fn complain_near(word: &[u8]) {
     complain_if_near(word, b"judge");
     complain_if_near(word, b"ignored");
+    complain_if_near(word, b"mend");
     complain_if_near(word, b"show");
     complain_if_near(word, b"settings");
     complain_if_near(word, b"message");

@@ -2,6 +2,7 @@
 use codes::protocol::Protocol;
 use fields::malformed;
 use judge_command::answer_judge;
+use mend_command::answer_mend;
 use message_command::read_command::answer_read;
 use message_command::write_command::answer_write;
 use record_command::answer_record;
@@ -62,6 +63,9 @@ fn command_of(name: &[u8]) -> u8 {
     if same(name, b"grecord") {
         return 10;
     }
+    if same(name, b"mend") {
+        return 11;
+    }
     0
 }
 
@@ -84,6 +88,7 @@ fn answer_command(
         8 => answer_write(Protocol::Group, line, rest, octets, buffer, output),
         9 => answer_step(Table::Group, line, rest, octets, buffer, output),
         10 => answer_record(Table::Group, line, rest, octets, buffer, output),
+        11 => answer_mend(line, rest, octets, buffer, output),
         _ => malformed(buffer, output),
     }
 }

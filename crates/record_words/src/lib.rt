@@ -5,9 +5,8 @@ mod refusal;
 
 ghost use mathlib.Core.Path.{_≡_};
 ghost use lib.ListN.{length};
-use filing::close_file;
-use filing::create_file;
 use filing::read_file;
+use filing::write_file;
 use ignored_words::list;
 use making::Made;
 use making::make;
@@ -70,12 +69,7 @@ fn record_script(
 }
 
 fn write_log(path: &[u8], log: &[u8], entries: usize) -> u8 {
-    let descriptor = create_file(b"record", path);
-    if descriptor < 0 {
-        return 2;
-    }
-    let whole = io::write_all(descriptor, log);
-    if !close_file(b"record", path, descriptor, whole) {
+    if !write_file(b"record", path, log) {
         return 2;
     }
     tell_name(path);

@@ -83,18 +83,25 @@ pub fn settings_and_log(word: &[u8], log: &mut [u8]) -> Ready {
     settings_and_log_behind(word, 0, log)
 }
 
-// The same behind so many options. Where the settings are refused, the log was not looked at: that is no verdict on it.
+// The same behind so many options.
 pub fn settings_and_log_behind(word: &[u8], options: usize, log: &mut [u8]) -> Ready {
     let count = std::num::wrapping_add_usize(options, 2);
     if !has_arguments(count, word, b"two arguments, a settings file and a log") {
         return stopped();
     }
-    let fitted = settings_at(word, count);
+    settings_before_log(word, options, log)
+}
+
+// The settings file and the log that are the first two arguments of a word behind so many options. Where the settings are refused, the log was not looked at: that is no
+// verdict on it.
+pub fn settings_before_log(word: &[u8], options: usize, log: &mut [u8]) -> Ready {
+    let place = std::num::wrapping_add_usize(options, 2);
+    let fitted = settings_at(word, place);
     let settings = fitted.settings;
     if fitted.verdict != 0 {
         return stopped();
     }
-    let filed = read_argument(word, std::num::wrapping_add_usize(count, 1), log);
+    let filed = read_argument(word, std::num::wrapping_add_usize(place, 1), log);
     if !filed.good {
         return stopped();
     }

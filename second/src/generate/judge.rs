@@ -3,16 +3,21 @@
 use super::log::{bytes, damaged, true_run};
 use super::random::Random;
 use super::step::own;
-use crate::commands;
+use crate::commands::{self, Identity};
 use crate::tables::TABLES;
 
 /// The entry "join in U0" of document 01's whole log.
 const JOIN_IN_U0: [u8; 7] = [0, 3, 3, 0, 0, 0, 0];
 
 pub fn command(random: &mut Random, long: bool) -> String {
+    let (identity, log) = identity_and_log(random, long);
+    commands::judge(&identity, &log)
+}
+
+pub fn identity_and_log(random: &mut Random, long: bool) -> (Identity, Vec<u8>) {
     let run = true_run(random);
     if long {
-        return commands::judge(&run.own, &long_log(random));
+        return (run.own, long_log(random));
     }
     let (walk, log) = match random.below(5) {
         0 | 1 => {
@@ -26,7 +31,7 @@ pub fn command(random: &mut Random, long: bool) -> String {
         true => own(random, 2),
         false => walk.own,
     };
-    commands::judge(&identity, &log)
+    (identity, log)
 }
 
 /// A log of 65,535, 65,536 or 65,537 bytes: 9,362 entries of seven bytes behind

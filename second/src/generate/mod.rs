@@ -6,6 +6,7 @@ pub mod group_walks;
 pub mod judge;
 pub mod log;
 pub mod malformed;
+pub mod mend;
 pub mod messages;
 pub mod random;
 pub mod record;
@@ -50,6 +51,7 @@ fn command(random: &mut Random, words: &[&str]) -> Vec<u8> {
         "step" | "gstep" => step::command(random, table),
         "settings" => commands::settings(&settings::file(random)),
         "judge" => judge::command(random, long),
+        "mend" => mend::command(random, long),
         _ => record::command(random, table, long),
     };
     if random.one_in(MALFORMED_SHARE) {
@@ -58,7 +60,7 @@ fn command(random: &mut Random, words: &[&str]) -> Vec<u8> {
     line.into_bytes()
 }
 
-/// The protocol that a word is about; `settings` and `judge` are about both.
+/// The protocol that a word is about; `settings`, `judge` and `mend` are about both.
 fn protocol_of(word: &str) -> Protocol {
     match word.starts_with(Protocol::Group.prefix()) {
         true => Protocol::Group,

@@ -1,10 +1,11 @@
-//! The commands `judge`, `record` and `grecord`.
+//! The commands `judge`, `record`, `grecord` and `mend`.
 
 use super::step::event_of;
 use super::tokens::*;
 use crate::answer::*;
 use crate::log::entry::Entry;
 use crate::log::judge::{judge as judge_log, Judgement};
+use crate::log::mend::mend as mend_log;
 use crate::log::record::record as record_entry;
 use crate::own::Own;
 use crate::tables::Table;
@@ -63,4 +64,30 @@ pub fn record(table: Table, fields: &[&[u8]]) -> Option<String> {
         Err(answer) => answer.to_string(),
         Ok(used) => format!("{TAKEN} {used} {}", hexadecimal(&buffer)),
     })
+}
+
+/// `mend CKSN CLASSMARK IDENTITY COPYLEN LOG`
+pub fn mend(fields: &[&[u8]]) -> Option<String> {
+    let [key_number, classmark, identity, buffer_length, log] = fields else {
+        return None;
+    };
+    let identity = octets(identity)?;
+    let own = Own {
+        key_number: small(key_number, 255)?,
+        classmark: exactly(classmark)?,
+        identity: &identity,
+    };
+    let buffer_length = number(buffer_length, u32::MAX)?;
+    Some(
+        match mend_log(&own, &octets(log)?, buffer_length as usize) {
+            Err(answer) => answer.to_string(),
+            Ok(mended) => format!(
+                "{TAKEN} {} {} {} {}",
+                mended.kept,
+                mended.dropped,
+                mended.ending,
+                hexadecimal(&mended.copy)
+            ),
+        },
+    )
 }

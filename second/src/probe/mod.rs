@@ -12,9 +12,10 @@ use crate::settings;
 use crate::tables::Table;
 use std::io::{self, BufRead, Write};
 
-/// The command words, those of group calls last.
-pub const WORDS: [&str; 10] = [
+/// The command words, in the order in which they came to be.
+pub const WORDS: [&str; 11] = [
     "read", "write", "step", "settings", "judge", "record", "gread", "gwrite", "gstep", "grecord",
+    "mend",
 ];
 
 /// The answer to what is no command.
@@ -53,6 +54,7 @@ pub fn answer(line: &[u8]) -> String {
         b"gwrite" => message::write(Group, fields),
         b"gstep" => step::step(Table::Group, fields),
         b"grecord" => log::record(Table::Group, fields),
+        b"mend" => log::mend(fields),
         _ => None,
     };
     answered.unwrap_or_else(|| MALFORMED.to_string())

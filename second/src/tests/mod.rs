@@ -12,6 +12,7 @@ mod group_matrix;
 mod invitations;
 mod limits;
 mod lines;
+mod mending;
 mod messages;
 mod optional;
 mod pairs;
@@ -59,7 +60,7 @@ pub fn cleared(actions: u8) -> String {
 
 /// Of each word all answer numbers that there are, as `reached` tells them: both
 /// what is made by chance and the fixed sets come to each of them.
-pub const ANSWERS: [(&str, &str); 10] = [
+pub const ANSWERS: [(&str, &str); 11] = [
     ("read", "0 13 6 ?"),
     ("write", "0 4 5 ?"),
     ("step", "0 1 2 3 4 5 6 7 ?"),
@@ -70,6 +71,7 @@ pub const ANSWERS: [(&str, &str); 10] = [
     ("gwrite", "0 4 5 ?"),
     ("gstep", "0 1 2 3 4 5 6 7 ?"),
     ("grecord", "0 10 11 4 ?"),
+    ("mend", "0 10 4 5 ?"),
 ];
 
 /// The answer numbers that these commands come to, each once, in order.

@@ -259,7 +259,7 @@ fn two_invitations(lines: &mut Vec<String>) {
 /// The same two lengths of an invitation and a join, in either order, so that a
 /// judge with one window for both, or with the two changed about, is found out.
 /// A window is empty while the other is not, and the log ends at that entry.
-fn both_settings(lines: &mut Vec<String>) {
+pub fn both_settings(lines: &mut Vec<String>) {
     let ran_out = |time| [(0, 10, NONE), (time, 19, NONE)];
     let join_failed = |wait, time| [(0, 10, NONE), (wait, 3, NONE), (time, 16, NONE)];
     let times = [

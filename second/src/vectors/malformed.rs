@@ -2,7 +2,7 @@
 //! right behind the greatest number, and every way to write a token wrongly.
 
 /// A good line of each word.
-const GOOD: [(&str, &str); 10] = [
+const GOOD: [(&str, &str); 11] = [
     ("read", "read d139"),
     (
         "write",
@@ -28,6 +28,7 @@ const GOOD: [(&str, &str); 10] = [
         "grecord",
         "grecord eeeeeeeeeeeeeeee 0 0 3 0 00000000 0 d039 3 0 0 0 51",
     ),
+    ("mend", "mend 3 3359a2 29f1 8 0300030300000000"),
 ];
 
 /// What a token is replaced with. Some of these are good in some places.

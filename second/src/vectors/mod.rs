@@ -14,6 +14,7 @@ pub mod judge_limits;
 pub mod judge_times;
 pub mod judge_versions;
 pub mod malformed;
+pub mod mend;
 pub mod messages;
 pub mod read;
 pub mod read_optional;
@@ -32,9 +33,9 @@ use std::collections::HashSet;
 use std::io::{self, Write};
 
 /// The fixed sets, each named after its command word; group logs have their own.
-pub const SETS: [&str; 11] = [
+pub const SETS: [&str; 12] = [
     "read", "write", "step", "settings", "judge", "record", "gread", "gwrite", "gstep", "grecord",
-    "judge16",
+    "mend", "judge16",
 ];
 
 /// Prints one of the fixed sets.
@@ -79,6 +80,7 @@ pub fn lines(set: &str) -> Vec<String> {
             group_step_limits::all(&mut lines);
         }
         "grecord" => group_record::all(&mut lines),
+        "mend" => mend::all(&mut lines),
         _ => group_judge::all(&mut lines),
     }
     malformed::all(set, &mut lines);
