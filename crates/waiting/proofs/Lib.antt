@@ -1,1 +1,4 @@
 pub mod Run
+pub mod Always
+pub mod Channel
+pub mod Waiting
