@@ -11,6 +11,7 @@ use Rattle.codes.specs.declared.state.State.the-variants.{U0p, U3, U4, U5, U6}
 use Rattle.codes.specs.declared.protocol.Protocol.the-variants.{Broadcast}
 use Rattle.timer.specs.declared.Timer.{Timer}
 use Rattle.timer.specs.declared.Timer.the-variants.{MmEst, Term, ConnReq, NoChannel, Pres}
+use Rattle.timer.specs.declared.Window.{Window}
 use Rattle.timer.specs.Timers.{timerNumber, lengthOf}
 use Rattle.context.specs.declared.Context.{Context}
 use Rattle.context.specs.States.{numberOf}
@@ -21,7 +22,17 @@ use Rattle.version.specs.declared.Table.{Table}
 use Rattle.version.specs.declared.Table.the-variants.{First, Second, Third, Group}
 use Rattle.version.specs.Version.{protocolOf, versionOf}
 use Rattle.judge_laws.specs.Log.{Log, Entry, begin}
-use Rattle.judge_laws.specs.TwoTimers.{lengthsWith, ExplainedBy}
+use Rattle.version.proofs.Back.{number-table}
+use Rattle.judge_laws.specs.Timers.{Interval}
+use Rattle.judge_laws.specs.Verdict.{Verdict, accepted, unreadable, unexplained}
+use Rattle.judge_laws.specs.TwoTimers.{lengthsWith, ExplainedBy, AcceptedBetween, Tells}
+use Rattle.verdict.specs.declared.Invitation.{Invitation}
+use Rattle.verdict.specs.declared.Invitation.the-variants.{Untold, Told}
+use Rattle.verdict.specs.declared.Judged.{Judged}
+use Rattle.verdict.specs.declared.Judged.the-variants.{Accepted, Unreadable, Unexplained, TooLong, OutOfRange}
+use Rattle.verdict.specs.Judge.{windowOf, invitationTold, judgedOf, answerNumber}
+use Rattle.verdict.specs.Demand.{Begins, behind}
+use Rattle.verdict.proofs.Demand.{verdictAt, tells, judged-begins}
 use Rattle.verdict.specs.Table.{steps, unknowns, tellsInvitation}
 use Rattle.waiting.specs.Visits.{Noted, notedFrom, Each, In, Visit, NoChannel as Unanswered}
 use Rattle.waiting.specs.Waiting.{AtMost, InU0p, InU4, InU6, InU5, InU3, NobodyWaits, Promise}
@@ -109,3 +120,76 @@ u3-where-told First e = never e
 u3-where-told Second e = never e
 u3-where-told Third e = pres-in-u3
 u3-where-told Group e = never e
+
+module _ (table : Table) (own : Own) (identity : List ℕ) (log : Log (Entry (steps table own identity))) (t u : ℕ)
+    (x : ExplainedBy (steps table own identity) unknowns log t u) (broadcast : protocolOf table ≡ Broadcast) where
+  pub u5-within : InU5 (versionOf table) (entries table own identity log t u x)
+  u5-within later = in-u5 table own identity log t u x (u5-by-version table broadcast later)
+
+-- ---- from the verdict on bytes
+
+-- The timers that an answer reports.
+abbrev joiningOf : Judged → Window
+joiningOf (Accepted n joining invitation) = joining
+joiningOf (Unreadable n) = record { least = 0; greatest = 0 }
+joiningOf (Unexplained n) = record { least = 0; greatest = 0 }
+joiningOf TooLong = record { least = 0; greatest = 0 }
+joiningOf OutOfRange = record { least = 0; greatest = 0 }
+
+abbrev invitationOf : Judged → Invitation
+invitationOf (Accepted n joining invitation) = invitation
+invitationOf (Unreadable n) = Untold
+invitationOf (Unexplained n) = Untold
+invitationOf TooLong = Untold
+invitationOf OutOfRange = Untold
+
+abbrev isTold : Invitation → Bool
+isTold Untold = false
+isTold (Told w) = true
+
+abbrev leastTold : Invitation → ℕ
+leastTold Untold = 0
+leastTold (Told w) = w .least
+
+-- An invitation timer is told by the table that has one, with the least that is left.
+told-least : (table : Table) (j : Interval) (reported : Window) → invitationTold table j ≡ Told reported → (tellsInvitation table ≡ true) × (j .least ≡ reported .least)
+unfolding invitationTold tellsInvitation
+told-least First j reported e = never (ap isTold e)
+told-least Second j reported e = never (ap isTold e)
+told-least Third j reported e = (refl, ap leastTold e)
+told-least Group j reported e = never (ap isTold e)
+
+module _ (own : Own) (identity s : List ℕ) (b : Begins own identity s) (broadcast : protocolOf (b .table) ≡ Broadcast) where
+  abbrev noted : List Noted
+  noted = notedFrom (b .table) own identity 0 (behind own identity s b)
+
+  accepted-waits : (n : ℕ) (i j : Interval) → AcceptedBetween (steps (b .table) own identity) unknowns (behind own identity s b) n i j
+      → NobodyWaits (b .number) (windowOf i) (invitationTold (b .table) j) noted
+  accepted-waits n i j p =
+      let x : ExplainedBy (steps (b .table) own identity) unknowns (behind own identity s b) (i .least) (j .least)
+      = p .between (i .least) (j .least) (omega arith, p .first-ordered) (omega arith, p .second-ordered) .1 in
+      let log = behind own identity s b in
+      record {
+        in-u0p = in-u0p (b .table) own identity log (i .least) (j .least) x;
+        in-u4 = in-u4 (b .table) own identity log (i .least) (j .least) x;
+        in-u6 = in-u6 (b .table) own identity log (i .least) (j .least) x broadcast (b .tested .settings);
+        in-u5 = subst (λ (v : ℕ). InU5 v noted) (sym (number-table (b .number) (b .table) (b .known))) (u5-within (b .table) own identity log (i .least) (j .least) x broadcast);
+        in-u3 = λ reported e.
+            let told = told-least (b .table) j reported e in
+            subst (λ (least : ℕ). AtMost least U3 noted) (told .1) (in-u3 (b .table) own identity log (i .least) (j .least) x (u3-where-told (b .table) (told .0)));
+      }
+
+  -- By cases on the answer: it reports what the verdict left.
+  judged-waits : (v : Verdict (Interval × Interval)) → Tells (steps (b .table) own identity) unknowns (behind own identity s b) v
+      → (n : ℕ) (joining : Window) (invitation : Invitation) → judgedOf (b .table) v ≡ Accepted n joining invitation → NobodyWaits (b .number) joining invitation noted
+  judged-waits (accepted count left) p n joining invitation e =
+      subst (λ (w : Window). NobodyWaits (b .number) w invitation noted) (ap joiningOf e)
+      (subst (λ (i : Invitation). NobodyWaits (b .number) (windowOf (left .0)) i noted) (ap invitationOf e) (accepted-waits count (left .0) (left .1) p))
+  judged-waits (unreadable count) p n joining invitation e = absurd (omega (arith, ap answerNumber e))
+  judged-waits (unexplained count) p n joining invitation e = absurd (omega (arith, ap answerNumber e))
+
+-- Nobody waits longer than the timers say.
+pub nobody-waits : (own : Own) (identity s : List ℕ) → Promise own identity s
+nobody-waits own identity s n joining invitation e b broadcast =
+    judged-waits own identity s b broadcast (verdictAt own identity s (b .table) (b .place)) (tells own identity s (b .table) (b .place)) n joining invitation
+    (sym (judged-begins own identity s b) ∙ e)
