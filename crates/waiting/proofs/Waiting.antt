@@ -2,7 +2,7 @@
 use Prim.Native.Nat.{ℕ, _+_, _≤_}
 use mathlib.Core.Path.{_≡_, refl, sym, ap, subst, _∙_}
 use mathlib.Core.Bool.{Bool, true, false}
-use mathlib.Core.List.{List, [], _∷_, _++_}
+use mathlib.Core.List.{List, [], _∷_, _++_, append-assoc}
 use native.Mathlib.Omega.{arith}
 use lib.ListN.{length}
 use Rattle.octets.proofs.Choice.{never}
@@ -42,10 +42,6 @@ use Rattle.waiting.proofs.Channel.{isBroadcast, Lost, Loses, Lacks, one
 
 -- ---- entries of a visit
 
-append-assoc : (a b c : List Noted) → (a ++ b) ++ c ≡ a ++ (b ++ c)
-append-assoc [] b c = refl
-append-assoc (n ∷ a) b c = ap (λ (l : List Noted). n ∷ l) (append-assoc a b c)
-
 each-behind : (P : Noted → Type 0) (a b : List Noted) → Each P (a ++ b) → Each P b
 each-behind P [] b e = e
 each-behind P (n ∷ a) b e = each-behind P a b (e .1)
@@ -75,13 +71,6 @@ module _ (table : Table) (own : Own) (identity : List ℕ) (log : Log (Entry (st
   pub in-u4 : InU4 t entries
   in-u4 visit = always-within U4 ConnReq (conn-req-in-u4 table) (λ z. omega (arith, z)) visit
 
-  pub in-u5 : Always table U5 Term → AtMost 10000 U5 entries
-  unfolding lengthOf
-  in-u5 always visit = always-within U5 Term always (λ z. omega (arith, z)) visit
-
-  pub in-u3 : Always table U3 Pres → AtMost u U3 entries
-  in-u3 always visit = always-within U3 Pres always (λ z. omega (arith, z)) visit
-
   -- From any "no channel" of a visit to U6 that no "channel available" followed T_no channel runs.
   module _ (broadcast : protocolOf table ≡ Broadcast) (settings : settingsOut (own .key) (length identity) ≡ false) where
     lost-there : (visit : Visit U6 entries) (channel : Unanswered visit) → Each (In U6) (channel .lost ∷ channel .later)
@@ -103,28 +92,34 @@ module _ (table : Table) (own : Own) (identity : List ℕ) (log : Log (Entry (st
         (lost-split visit channel) (channel .no-channel, lost-there visit channel .0)
         (each-both (In U6) (λ n. n .event ≡ 13 → ⊥) (channel .later) (lost-there visit channel .1) (channel .none-available))
 
--- ---- by the version
+-- ---- the limits that go by the version
 
--- From version 2 on T_term always runs in U5,
-pub u5-by-version : (table : Table) → protocolOf table ≡ Broadcast → 2 ≤ versionOf table → Always table U5 Term
-unfolding versionOf protocolOf
-u5-by-version First b v = absurd (omega arith)
-u5-by-version Second b v = term-in-u5-second
-u5-by-version Third b v = term-in-u5-third
-u5-by-version Group b v = never (ap isBroadcast b)
+-- From version 2 on T_term always runs in U5.
+pub in-u5 : (table : Table) → protocolOf table ≡ Broadcast → (own : Own) (identity : List ℕ) (log : Log (Entry (steps table own identity))) (t u : ℕ)
+    → ExplainedBy (steps table own identity) unknowns log t u → InU5 (versionOf table) (notedFrom table own identity 0 log)
+unfolding lengthOf versionOf protocolOf
+in-u5 First b own identity log t u x later = absurd (omega arith)
+in-u5 Second b own identity log t u x later = always-within Second own identity log t u x U5 Term term-in-u5-second (λ z. omega (arith, z))
+in-u5 Third b own identity log t u x later = always-within Third own identity log t u x U5 Term term-in-u5-third (λ z. omega (arith, z))
+in-u5 Group b own identity log t u x later = never (ap isBroadcast b)
 
--- and where an invitation timer is told, it always runs in U3.
-pub u3-where-told : (table : Table) → tellsInvitation table ≡ true → Always table U3 Pres
-unfolding tellsInvitation
-u3-where-told First e = never e
-u3-where-told Second e = never e
-u3-where-told Third e = pres-in-u3
-u3-where-told Group e = never e
+abbrev isTold : Invitation → Bool
+isTold Untold = false
+isTold (Told w) = true
 
-module _ (table : Table) (own : Own) (identity : List ℕ) (log : Log (Entry (steps table own identity))) (t u : ℕ)
-    (x : ExplainedBy (steps table own identity) unknowns log t u) (broadcast : protocolOf table ≡ Broadcast) where
-  pub u5-within : InU5 (versionOf table) (entries table own identity log t u x)
-  u5-within later = in-u5 table own identity log t u x (u5-by-version table broadcast later)
+abbrev leastTold : Invitation → ℕ
+leastTold Untold = 0
+leastTold (Told w) = w .least
+
+-- An invitation timer is told by the third table alone, in which it always runs in U3.
+pub in-u3 : (table : Table) (own : Own) (identity : List ℕ) (log : Log (Entry (steps table own identity))) (t : ℕ) (j : Interval)
+    → ExplainedBy (steps table own identity) unknowns log t (j .least) → InU3 (invitationTold table j) (notedFrom table own identity 0 log)
+unfolding invitationTold tellsInvitation
+in-u3 First own identity log t j x reported e = never (ap isTold e)
+in-u3 Second own identity log t j x reported e = never (ap isTold e)
+in-u3 Third own identity log t j x reported e =
+    subst (λ (least : ℕ). AtMost least U3 (notedFrom Third own identity 0 log)) (ap leastTold e) (always-within Third own identity log t (j .least) x U3 Pres pres-in-u3 (λ z. omega (arith, z)))
+in-u3 Group own identity log t j x reported e = never (ap isTold e)
 
 -- ---- from the verdict on bytes
 
@@ -143,22 +138,6 @@ invitationOf (Unexplained n) = Untold
 invitationOf TooLong = Untold
 invitationOf OutOfRange = Untold
 
-abbrev isTold : Invitation → Bool
-isTold Untold = false
-isTold (Told w) = true
-
-abbrev leastTold : Invitation → ℕ
-leastTold Untold = 0
-leastTold (Told w) = w .least
-
--- An invitation timer is told by the table that has one, with the least that is left.
-told-least : (table : Table) (j : Interval) (reported : Window) → invitationTold table j ≡ Told reported → (tellsInvitation table ≡ true) × (j .least ≡ reported .least)
-unfolding invitationTold tellsInvitation
-told-least First j reported e = never (ap isTold e)
-told-least Second j reported e = never (ap isTold e)
-told-least Third j reported e = (refl, ap leastTold e)
-told-least Group j reported e = never (ap isTold e)
-
 module _ (own : Own) (identity s : List ℕ) (b : Begins own identity s) (broadcast : protocolOf (b .table) ≡ Broadcast) where
   abbrev noted : List Noted
   noted = notedFrom (b .table) own identity 0 (behind own identity s b)
@@ -173,10 +152,8 @@ module _ (own : Own) (identity s : List ℕ) (b : Begins own identity s) (broadc
         in-u0p = in-u0p (b .table) own identity log (i .least) (j .least) x;
         in-u4 = in-u4 (b .table) own identity log (i .least) (j .least) x;
         in-u6 = in-u6 (b .table) own identity log (i .least) (j .least) x broadcast (b .tested .settings);
-        in-u5 = subst (λ (v : ℕ). InU5 v noted) (sym (number-table (b .number) (b .table) (b .known))) (u5-within (b .table) own identity log (i .least) (j .least) x broadcast);
-        in-u3 = λ reported e.
-            let told = told-least (b .table) j reported e in
-            subst (λ (least : ℕ). AtMost least U3 noted) (told .1) (in-u3 (b .table) own identity log (i .least) (j .least) x (u3-where-told (b .table) (told .0)));
+        in-u5 = subst (λ (v : ℕ). InU5 v noted) (sym (number-table (b .number) (b .table) (b .known))) (in-u5 (b .table) broadcast own identity log (i .least) (j .least) x);
+        in-u3 = in-u3 (b .table) own identity log (i .least) j x;
       }
 
   -- By cases on the answer: it reports what the verdict left.
