@@ -2,3 +2,4 @@ pub mod Run
 pub mod Always
 pub mod Channel
 pub mod Waiting
+pub mod Cases
