@@ -1,6 +1,6 @@
--- The promise is sharp. For each limit a log that reaches it to the millisecond is accepted, so that no smaller number could stand there, and the same log with a
--- millisecond more is refused; and logs that are accepted although they break a stronger promise. Worked out by hand from the papers, computed from the definitions.
-use Prim.Native.Nat.{ℕ, _+_, _≤_}
+-- For each limit a log that reaches it to the millisecond, which is accepted, and the same log with a millisecond more, which is refused; and logs that are accepted
+-- although they break a stronger promise. Written by hand from the papers, answered by computing the definitions. proofs/Sharp draws the conclusion.
+use Prim.Native.Nat.{ℕ, _+_}
 use mathlib.Core.Path.{_≡_, refl}
 use mathlib.Core.List.{List, [], _∷_, _++_}
 use native.Mathlib.Omega.{arith}
@@ -15,6 +15,7 @@ use Rattle.element.specs.Counted.{countedAt}
 use Rattle.element.specs.Elements.{within, nextElement, elementAmong, elementFrom}
 use Rattle.fitness.specs.Fitness.{consistentBy, timersFitBy, rememberedFitBy, chooserFitBy, pendingFitBy, talkFitBy, isCleared, fitBy}
 use Rattle.fitness.specs.Tables.{fitnessOf}
+use Rattle.timer.specs.declared.Window.{Window}
 use Rattle.timer.specs.Timers.{runningAmong, expiryOf, lengthOf, withTimer}
 use Rattle.transitions.specs.Table.{stepTable, heardIn, happenedIn, decidedIn, decidedBy}
 use Rattle.call.specs.Due.{settledBy}
@@ -41,18 +42,19 @@ use Rattle.log.specs.Reading.{restAt, entryAt}
 use Rattle.judge_laws.specs.Judge.{narrow, turn, judgeFrom, judge}
 use Rattle.judge_laws.specs.Reading.{entriesIn, entries}
 use Rattle.judge_laws.specs.TwoTimers.{judgeTwo}
+use Rattle.verdict.specs.declared.Invitation.the-variants.{Untold, Told}
+use Rattle.verdict.specs.declared.Judged.the-variants.{Accepted, Unexplained}
 use Rattle.verdict.specs.Table.{tellsInvitation, agree}
-use Rattle.verdict.specs.Judge.{invitationTold, versionJudged, judgeOf, entriesAt, answerNumber, answerValues}
+use Rattle.verdict.specs.Judge.{invitationTold, versionJudged, judgeOf, entriesAt}
 use Rattle.waiting.specs.Visits.{Noted, notedFrom, Visit, NoChannel}
-use Rattle.waiting.specs.Waiting.{AtMost}
 
 -- ---- entries
 
 -- Settings in range; only what SETUP and TERMINATION REQUEST carry is sent, which no setting changes.
-abbrev own : Own
+abbrev pub own : Own
 own = record { key = 5; classmark = record { first = 0x33; second = 0x19; third = 0x82 } }
 
-abbrev identity : List ℕ
+abbrev pub identity : List ℕ
 identity = 0x08 ∷ 0x49 ∷ 0x26 ∷ 0x10 ∷ []
 
 -- Entries, as milliseconds (0, or given in front), event, data; answer, state, parameters, actions, reply.
@@ -106,96 +108,163 @@ noChannel = 0x0C ∷ 0x00 ∷ 0x07 ∷ 0x02 ∷ 0x01 ∷ 0x00 ∷ []
 abbrev available : List ℕ
 available = 0x0D ∷ 0x00 ∷ 0x07 ∷ 0x02 ∷ 0x01 ∷ 0x00 ∷ []
 
--- ---- logs
+-- ---- logs, by the milliseconds of their last entry but where another is named
 
--- In U0.p until a time. 88 27 is 5,000, 89 27 is 5,001.
-abbrev calling : List ℕ
-calling = 0x01 ∷ setUp
+abbrev ms5000 : List ℕ
+ms5000 = 0x88 ∷ 0x27 ∷ []
 
--- The joining timer is 12,000 ms long; in U4 once more until a time. E0 5D is 12,000, E1 5D is 12,001.
-abbrev joining : List ℕ
-joining = 0x01 ∷ (notified ++ ((0x00 ∷ join) ++ (expiresAt12000 ++ (notified ++ (0x00 ∷ join)))))
+abbrev ms5001 : List ℕ
+ms5001 = 0x89 ∷ 0x27 ∷ []
+
+abbrev ms12000 : List ℕ
+ms12000 = 0xE0 ∷ 0x5D ∷ []
+
+abbrev ms12001 : List ℕ
+ms12001 = 0xE1 ∷ 0x5D ∷ []
+
+abbrev ms1000 : List ℕ
+ms1000 = 0xE8 ∷ 0x07 ∷ []
+
+abbrev ms1001 : List ℕ
+ms1001 = 0xE9 ∷ 0x07 ∷ []
+
+abbrev ms2000 : List ℕ
+ms2000 = 0xD0 ∷ 0x0F ∷ []
+
+abbrev ms10000 : List ℕ
+ms10000 = 0x90 ∷ 0x4E ∷ []
+
+abbrev ms10001 : List ℕ
+ms10001 = 0x91 ∷ 0x4E ∷ []
+
+abbrev ms60000 : List ℕ
+ms60000 = 0xE0 ∷ 0xD4 ∷ 0x03 ∷ []
+
+abbrev ms60001 : List ℕ
+ms60001 = 0xE1 ∷ 0xD4 ∷ 0x03 ∷ []
+
+abbrev hour : List ℕ
+hour = 0x80 ∷ 0xDD ∷ 0xDB ∷ 0x01 ∷ []
+
+-- In U0.p, until the establishment fails.
+abbrev pub calling : List ℕ → List ℕ
+calling ms = 0x01 ∷ (setUp ++ (ms ++ failed))
+
+-- In U4 until the joining timer expires, and once more until group receive mode is entered.
+abbrev pub joining : List ℕ → List ℕ
+joining ms = 0x01 ∷ (notified ++ ((0x00 ∷ join) ++ (expiresAt12000 ++ (notified ++ ((0x00 ∷ join) ++ (ms ++ entered))))))
 
 -- In U6.
 abbrev listening : List ℕ
-listening = 0x01 ∷ (notified ++ ((0x00 ∷ join) ++ (0x00 ∷ entered)))
+listening = notified ++ ((0x00 ∷ join) ++ (0x00 ∷ entered))
 
--- No channel, once more 2,000 ms later, and until a time. E8 07 is 1,000, E9 07 is 1,001, D0 0F is 2,000.
-abbrev losing : List ℕ
-losing = listening ++ ((0x00 ∷ noChannel) ++ (0xD0 ∷ 0x0F ∷ noChannel))
+-- There the channel is lost, 2,000 ms later that is told again, and then it is available.
+abbrev pub losing : List ℕ → List ℕ
+losing ms = 0x01 ∷ (listening ++ ((0x00 ∷ noChannel) ++ ((ms2000 ++ noChannel) ++ (ms ++ available))))
 
--- In U5 until a time, by version 2. 90 4E is 10,000, 91 4E is 10,001.
-abbrev asking : List ℕ
-asking = setUp ++ (established ++ terminates)
+-- In U5 by a version, until the call is aborted.
+abbrev pub asking : ℕ → List ℕ → List ℕ
+asking version ms = version ∷ (setUp ++ (established ++ (terminates ++ (ms ++ aborted))))
 
--- The invitation timer is 60,000 ms long; in U3 once more until a time. E0 D4 03 is 60,000, E1 D4 03 is 60,001.
-abbrev invited : List ℕ
-invited = 0x03 ∷ (notified ++ (forgottenAt60000 ++ notified))
+-- In U3 until the invitation is forgotten, and once more until it is joined.
+abbrev pub invited : List ℕ → List ℕ
+invited ms = 0x03 ∷ (notified ++ (forgottenAt60000 ++ (notified ++ (ms ++ join))))
 
--- 80 DD DB 01 is 3,600,000, an hour.
-abbrev rejectedAnHour : List ℕ
-rejectedAnHour = 0x01 ∷ (asking ++ (rejected ++ (0x80 ∷ 0xDD ∷ 0xDB ∷ 0x01 ∷ aborted)))
+-- In U5 by version 1, where TERMINATION REJECT stops T_term, until the call is aborted.
+abbrev pub refusing : List ℕ → List ℕ
+refusing ms = 0x01 ∷ (setUp ++ (established ++ (terminates ++ (rejected ++ (ms ++ aborted)))))
 
-abbrev lateLost : List ℕ
-lateLost = listening ++ ((0x80 ∷ 0xDD ∷ 0xDB ∷ 0x01 ∷ noChannel) ++ (0x00 ∷ available))
+-- In U6 until the channel is lost, and available again at once.
+abbrev pub hearing-on : List ℕ → List ℕ
+hearing-on ms = 0x01 ∷ (listening ++ ((ms ++ noChannel) ++ (0x00 ∷ available)))
 
--- Each log with the answer's number and values.
-abbrev pub cases : List (List ℕ × ℕ × List ℕ)
-cases =
-    (calling ++ (0x88 ∷ 0x27 ∷ failed), 0, 2 ∷ 10000 ∷ 30000 ∷ []) ∷  -- 5,000 ms in U0.p
-    (calling ++ (0x89 ∷ 0x27 ∷ failed), 9, 2 ∷ []) ∷
-    (joining ++ (0xE0 ∷ 0x5D ∷ entered), 0, 6 ∷ 12000 ∷ 12000 ∷ []) ∷  -- 12,000 ms in U4, the least reported
-    (joining ++ (0xE1 ∷ 0x5D ∷ entered), 9, 6 ∷ []) ∷
-    (losing ++ (0xE8 ∷ 0x07 ∷ available), 0, 6 ∷ 10000 ∷ 30000 ∷ []) ∷  -- in U6 3,000 ms after the first "no channel"
-    (losing ++ (0xE9 ∷ 0x07 ∷ available), 9, 6 ∷ []) ∷
-    (0x02 ∷ (asking ++ (0x90 ∷ 0x4E ∷ aborted)), 0, 4 ∷ 10000 ∷ 30000 ∷ []) ∷  -- 10,000 ms in U5, by version 2
-    (0x02 ∷ (asking ++ (0x91 ∷ 0x4E ∷ aborted)), 9, 4 ∷ []) ∷
-    (0x03 ∷ (asking ++ (0x90 ∷ 0x4E ∷ aborted)), 0, 4 ∷ 10000 ∷ 30000 ∷ 1000 ∷ 600000 ∷ []) ∷  -- and by version 3
-    (0x03 ∷ (asking ++ (0x91 ∷ 0x4E ∷ aborted)), 9, 4 ∷ []) ∷
-    (invited ++ (0xE0 ∷ 0xD4 ∷ 0x03 ∷ join), 0, 4 ∷ 10000 ∷ 30000 ∷ 60000 ∷ 60000 ∷ []) ∷  -- 60,000 ms in U3, the least reported
-    (invited ++ (0xE1 ∷ 0xD4 ∷ 0x03 ∷ join), 9, 4 ∷ []) ∷
-    (rejectedAnHour, 0, 5 ∷ 10000 ∷ 30000 ∷ []) ∷  -- an hour in U5, by version 1
-    (lateLost, 0, 5 ∷ 10000 ∷ 30000 ∷ []) ∷  -- an hour in U6 before the channel is lost
-    (losing ++ ((0x00 ∷ available) ++ (0x80 ∷ 0xDD ∷ 0xDB ∷ 0x01 ∷ noChannel)), 0, 7 ∷ 10000 ∷ 30000 ∷ []) ∷  -- and after it was lost and came back
-    (0x02 ∷ (notified ++ (0x80 ∷ 0xDD ∷ 0xDB ∷ 0x01 ∷ join)), 0, 2 ∷ 10000 ∷ 30000 ∷ []) ∷  -- an hour in U3, by version 2
-    []
+-- In U6, where the channel is lost, available again at once, and lost again.
+abbrev pub losing-again : List ℕ → List ℕ
+losing-again ms = 0x01 ∷ (listening ++ ((0x00 ∷ noChannel) ++ ((0x00 ∷ available) ++ (ms ++ noChannel))))
 
--- Each log of a table is answered so.
-abbrev pub Answered : List (List ℕ × ℕ × List ℕ) → Type 0
-Answered [] = Unit {0}
-Answered (c ∷ cs) =
-    ((answerNumber (judgeOf own identity (c .0)) ≡ c .1) × (answerValues (judgeOf own identity (c .0)) ≡ c .2)) × Answered cs
+-- In U3 by version 2, until it is joined.
+abbrev pub inviting : List ℕ → List ℕ
+inviting ms = 0x02 ∷ (notified ++ (ms ++ join))
 
-pub all-cases : Answered cases
+-- ---- how each is answered
+
+abbrev pub between : ℕ → ℕ → Window
+between least greatest = record { least = least; greatest = greatest }
+
+abbrev pub anyJoining : Window
+anyJoining = between 10000 30000
+
+pub record Answers : Type 0 where
+  pub u0p : judgeOf own identity (calling ms5000) ≡ Accepted 2 anyJoining Untold
+  pub u0p-over : judgeOf own identity (calling ms5001) ≡ Unexplained 2
+  pub u4 : judgeOf own identity (joining ms12000) ≡ Accepted 6 (between 12000 12000) Untold
+  pub u4-over : judgeOf own identity (joining ms12001) ≡ Unexplained 6
+  pub u6 : judgeOf own identity (losing ms1000) ≡ Accepted 6 anyJoining Untold
+  pub u6-over : judgeOf own identity (losing ms1001) ≡ Unexplained 6
+  pub u5 : judgeOf own identity (asking 2 ms10000) ≡ Accepted 4 anyJoining Untold
+  pub u5-over : judgeOf own identity (asking 2 ms10001) ≡ Unexplained 4
+  pub u5-third : judgeOf own identity (asking 3 ms10000) ≡ Accepted 4 anyJoining (Told (between 1000 600000))
+  pub u5-third-over : judgeOf own identity (asking 3 ms10001) ≡ Unexplained 4
+  pub u3 : judgeOf own identity (invited ms60000) ≡ Accepted 4 anyJoining (Told (between 60000 60000))
+  pub u3-over : judgeOf own identity (invited ms60001) ≡ Unexplained 4
+  pub u5-first : judgeOf own identity (refusing hour) ≡ Accepted 5 anyJoining Untold
+  pub u6-heard : judgeOf own identity (hearing-on hour) ≡ Accepted 5 anyJoining Untold
+  pub u6-again : judgeOf own identity (losing-again hour) ≡ Accepted 6 anyJoining Untold
+  pub u3-second : judgeOf own identity (inviting hour) ≡ Accepted 2 anyJoining Untold
+
+pub answers : Answers
 unfolding judgeOf versionJudged invitationTold tellsInvitation tableOf settingsOut judgeTwo judge judgeFrom turn narrow entries entriesIn numberAt groupsAt joined upTo smallAt runAt callAt receivedAt dataAt claimAt restAt entryAt hasEvent greatestState greatestActions carriesCall agree parametersNumber weighs stepOf refusalOf fitnessRefusal argumentRefusal outOfRange reactedTo dueTo eventOf toldDue settledBy stepBy seenOf carriedOut decidedBy decidedIn stepTable heardIn happenedIn noStep afterwards withTimer parametersAfter entering startRow setRow valueAfter referenceAfter cleared fitBy consistentBy timersFitBy rememberedFitBy chooserFitBy pendingFitBy talkFitBy isCleared runningAmong remembering returning expiryOf lengthOf replyOf rowOf ownOf statusDue requestDue dueOf sameOctets fitnessOf protocolOf adopted originating noted awaitingAfter sentIn flushed discriminator countedAt within nextElement elementAmong elementFrom lies wholeOf terminationRejectOf bodyOf readMessage table typeOf headOf written sent hearing flagIn flagBy flagOf seenMessage understoodDue readingDue transactionIs awaitedIs transactionFits causeIn typeCause askedOf isOther Within
-all-cases = ((refl, refl), ((refl, refl), ((refl, refl), ((refl, refl), ((refl, refl), ((refl, refl), ((refl, refl), ((refl, refl), ((refl, refl), ((refl, refl), ((refl, refl), ((refl, refl), ((refl, refl), ((refl, refl), ((refl, refl), ((refl, refl), tt))))))))))))))))
+answers = record {
+  u0p = refl;
+  u0p-over = refl;
+  u4 = refl;
+  u4-over = refl;
+  u6 = refl;
+  u6-over = refl;
+  u5 = refl;
+  u5-over = refl;
+  u5-third = refl;
+  u5-third-over = refl;
+  u3 = refl;
+  u3-over = refl;
+  u5-first = refl;
+  u6-heard = refl;
+  u6-again = refl;
+  u3-second = refl;
+}
 
--- ---- the visits of these logs that reach the limits
+-- ---- the visits that reach the limits
 
--- The entries of a log whose version takes one octet.
-abbrev entriesOf : Table → List ℕ → List Noted
+-- The entries of a log, behind a version of one octet.
+abbrev pub entriesOf : Table → List ℕ → List Noted
 entriesOf table s = notedFrom table own identity 0 (entriesAt table own identity s 1)
 
 abbrev note : ℕ → ℕ → ℕ → Noted
 note time event state = record { time = time; event = event; state = state }
 
--- A visit of exactly so many milliseconds: it leaves room for no smaller limit.
-abbrev pub Reaches : ℕ → State → List Noted → Type 0
-Reaches limit state log = (visit : Visit state log) × (visit .next .time ≡ visit .enters .time + limit)
+-- A visit of exactly so many milliseconds.
+abbrev pub Lasts : ℕ → State → List Noted → Type 0
+Lasts limit state log = (visit : Visit state log) × (visit .next .time ≡ visit .enters .time + limit)
 
-pub no-less : (limit : ℕ) (state : State) (log : List Noted) → Reaches limit state log → (less : ℕ) → AtMost less state log → limit ≤ less
-no-less limit state log (visit, e) less most = let w : visit .next .time ≤ visit .enters .time + less = most visit in omega arith
-
-pub reached-u0p : Reaches 5000 U0p (entriesOf First (calling ++ (0x88 ∷ 0x27 ∷ failed)))
+pub lasts-u0p : Lasts 5000 U0p (entriesOf First (calling ms5000))
 unfolding entries entriesIn numberAt groupsAt joined upTo smallAt runAt callAt receivedAt dataAt claimAt restAt entryAt hasEvent greatestState greatestActions carriesCall
-reached-u0p = (
-  record { before = []; enters = note 0 1 1; stays = []; next = note 5000 7 0; behind = []; split = refl; from-another = λ e. omega (arith, e); there = (refl, tt) },
+lasts-u0p = (
+  record {
+    before = [];
+    enters = note 0 1 1;
+    stays = [];
+    next = note 5000 7 0;
+    behind = [];
+    split = refl;
+    from-another = λ e. omega (arith, e);
+    there = (refl, tt);
+  },
   refl,
 )
 
-pub reached-u4 : Reaches 12000 U4 (entriesOf First (joining ++ (0xE0 ∷ 0x5D ∷ entered)))
+pub lasts-u4 : Lasts 12000 U4 (entriesOf First (joining ms12000))
 unfolding entries entriesIn numberAt groupsAt joined upTo smallAt runAt callAt receivedAt dataAt claimAt restAt entryAt hasEvent greatestState greatestActions carriesCall
-reached-u4 = (
+lasts-u4 = (
   record {
     before = note 0 10 4 ∷ note 0 3 5 ∷ note 12000 16 0 ∷ note 12000 10 4 ∷ [];
     enters = note 12000 3 5;
@@ -209,9 +278,9 @@ reached-u4 = (
   refl,
 )
 
-pub reached-u5 : Reaches 10000 U5 (entriesOf Second (0x02 ∷ (asking ++ (0x90 ∷ 0x4E ∷ aborted))))
+pub lasts-u5 : Lasts 10000 U5 (entriesOf Second (asking 2 ms10000))
 unfolding entries entriesIn numberAt groupsAt joined upTo smallAt runAt callAt receivedAt dataAt claimAt restAt entryAt hasEvent greatestState greatestActions carriesCall
-reached-u5 = (
+lasts-u5 = (
   record {
     before = note 0 1 1 ∷ note 0 6 2 ∷ [];
     enters = note 0 4 6;
@@ -225,9 +294,9 @@ reached-u5 = (
   refl,
 )
 
-pub reached-u3 : Reaches 60000 U3 (entriesOf Third (invited ++ (0xE0 ∷ 0xD4 ∷ 0x03 ∷ join)))
+pub lasts-u3 : Lasts 60000 U3 (entriesOf Third (invited ms60000))
 unfolding entries entriesIn numberAt groupsAt joined upTo smallAt runAt callAt receivedAt dataAt claimAt restAt entryAt hasEvent greatestState greatestActions carriesCall
-reached-u3 = (
+lasts-u3 = (
   record {
     before = note 0 10 4 ∷ note 60000 19 0 ∷ [];
     enters = note 60000 10 4;
@@ -241,40 +310,10 @@ reached-u3 = (
   refl,
 )
 
--- Of U6 the wait is that after the first "no channel", and the visit may be longer.
-abbrev pub Lacks : ℕ → List Noted → Type 0
-Lacks limit log = (visit : Visit U6 log) × (channel : NoChannel visit) × (visit .next .time ≡ channel .lost .time + limit)
-
-pub reached-u6 : Lacks 3000 (entriesOf First (losing ++ (0xE8 ∷ 0x07 ∷ available)))
+-- An hour in U5, by version 1.
+pub lasts-u5-first : Lasts 3600000 U5 (entriesOf First (refusing hour))
 unfolding entries entriesIn numberAt groupsAt joined upTo smallAt runAt callAt receivedAt dataAt claimAt restAt entryAt hasEvent greatestState greatestActions carriesCall
-reached-u6 = (
-  record {
-    before = note 0 10 4 ∷ note 0 3 5 ∷ [];
-    enters = note 0 11 7;
-    stays = note 0 12 7 ∷ note 2000 12 7 ∷ [];
-    next = note 3000 13 7;
-    behind = [];
-    split = refl;
-    from-another = λ e. omega (arith, e);
-    there = (refl, (refl, (refl, tt)));
-  },
-  record {
-    earlier = note 0 11 7 ∷ [];
-    lost = note 0 12 7;
-    later = note 2000 12 7 ∷ [];
-    split = refl;
-    no-channel = refl;
-    none-available = (λ e. omega (arith, e), tt);
-  },
-  refl,
-)
-
--- ---- visits that are longer than a stronger promise would let them be
-
--- An hour in U5 by version 1,
-pub hour-in-u5 : Reaches 3600000 U5 (entriesOf First rejectedAnHour)
-unfolding entries entriesIn numberAt groupsAt joined upTo smallAt runAt callAt receivedAt dataAt claimAt restAt entryAt hasEvent greatestState greatestActions carriesCall
-hour-in-u5 = (
+lasts-u5-first = (
   record {
     before = note 0 1 1 ∷ note 0 6 2 ∷ [];
     enters = note 0 4 6;
@@ -288,11 +327,37 @@ hour-in-u5 = (
   refl,
 )
 
--- and an hour in U6 where the channel is lost at its end.
-pub hour-in-u6 : Reaches 3600000 U6 (entriesOf First lateLost)
+-- In U6 so many milliseconds after a "no channel", and in it so many since it was entered.
+pub record Lacks (limit all : ℕ) (log : List Noted) : Type 0 where
+  pub visit : Visit U6 log
+  pub channel : NoChannel visit
+  pub lacks : visit .next .time ≡ channel .lost .time + limit
+  pub lasts : visit .next .time ≡ visit .enters .time + all
+
+-- The first "no channel" counts, and the second does not put it off.
+pub lacks-u6 : Lacks 3000 3000 (entriesOf First (losing ms1000))
 unfolding entries entriesIn numberAt groupsAt joined upTo smallAt runAt callAt receivedAt dataAt claimAt restAt entryAt hasEvent greatestState greatestActions carriesCall
-hour-in-u6 = (
-  record {
+lacks-u6 = record {
+  visit = record {
+    before = note 0 10 4 ∷ note 0 3 5 ∷ [];
+    enters = note 0 11 7;
+    stays = note 0 12 7 ∷ note 2000 12 7 ∷ [];
+    next = note 3000 13 7;
+    behind = [];
+    split = refl;
+    from-another = λ e. omega (arith, e);
+    there = (refl, (refl, (refl, tt)));
+  };
+  channel = record { earlier = note 0 11 7 ∷ []; lost = note 0 12 7; later = note 2000 12 7 ∷ []; split = refl; no-channel = refl; none-available = (λ e. omega (arith, e), tt) };
+  lacks = refl;
+  lasts = refl;
+}
+
+-- After an hour in which there was a channel.
+pub lacks-u6-late : Lacks 0 3600000 (entriesOf First (hearing-on hour))
+unfolding entries entriesIn numberAt groupsAt joined upTo smallAt runAt callAt receivedAt dataAt claimAt restAt entryAt hasEvent greatestState greatestActions carriesCall
+lacks-u6-late = record {
+  visit = record {
     before = note 0 10 4 ∷ note 0 3 5 ∷ [];
     enters = note 0 11 7;
     stays = note 3600000 12 7 ∷ [];
@@ -301,6 +366,8 @@ hour-in-u6 = (
     split = refl;
     from-another = λ e. omega (arith, e);
     there = (refl, (refl, tt));
-  },
-  refl,
-)
+  };
+  channel = record { earlier = note 0 11 7 ∷ []; lost = note 3600000 12 7; later = []; split = refl; no-channel = refl; none-available = tt };
+  lacks = refl;
+  lasts = refl;
+}

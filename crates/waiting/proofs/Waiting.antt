@@ -166,7 +166,7 @@ module _ (own : Own) (identity s : List ℕ) (b : Begins own identity s) (broadc
   judged-waits (unexplained count) p n joining invitation e = absurd (omega (arith, ap answerNumber e))
 
 -- Nobody waits longer than the timers say.
-pub nobody-waits : (own : Own) (identity s : List ℕ) → Promise own identity s
+pub nobody-waits : Promise
 nobody-waits own identity s n joining invitation e b broadcast =
     judged-waits own identity s b broadcast (verdictAt own identity s (b .table) (b .place)) (tells own identity s (b .table) (b .place)) n joining invitation
     (sym (judged-begins own identity s b) ∙ e)

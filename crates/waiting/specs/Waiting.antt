@@ -46,9 +46,13 @@ pub record NobodyWaits (version : ℕ) (joining : Window) (invitation : Invitati
   pub in-u5 : InU5 version log
   pub in-u3 : InU3 invitation log
 
--- "In any accepted broadcast log": the judge's verdict on its bytes says which timers are reported, and its first number, the version, that it is of a broadcast call.
-abbrev pub Promise : Own → (identity s : List ℕ) → Type 0
-Promise own identity s =
-    (n : ℕ) (joining : Window) (invitation : Invitation) → judgeOf own identity s ≡ Accepted n joining invitation
+-- "In any accepted broadcast log": of the version, the timers reported, and the entries. The judge's verdict on the log's bytes reports the timers; its first number, the
+-- version, says that it is of a broadcast call.
+abbrev pub InAnyAccepted : (ℕ → Window → Invitation → List Noted → Type 0) → Type 0
+InAnyAccepted Keeps =
+    (own : Own) (identity s : List ℕ) (n : ℕ) (joining : Window) (invitation : Invitation) → judgeOf own identity s ≡ Accepted n joining invitation
     → (begins : Begins own identity s) → protocolOf (begins .table) ≡ Broadcast
-    → NobodyWaits (begins .number) joining invitation (notedFrom (begins .table) own identity 0 (behind own identity s begins))
+    → Keeps (begins .number) joining invitation (notedFrom (begins .table) own identity 0 (behind own identity s begins))
+
+abbrev pub Promise : Type 0
+Promise = InAnyAccepted NobodyWaits
