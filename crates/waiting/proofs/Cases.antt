@@ -110,40 +110,40 @@ available = 0x0D ∷ 0x00 ∷ 0x07 ∷ 0x02 ∷ 0x01 ∷ 0x00 ∷ []
 
 -- ---- logs, by the milliseconds of their last entry but where another is named
 
-abbrev ms5000 : List ℕ
+abbrev pub ms5000 : List ℕ
 ms5000 = 0x88 ∷ 0x27 ∷ []
 
-abbrev ms5001 : List ℕ
+abbrev pub ms5001 : List ℕ
 ms5001 = 0x89 ∷ 0x27 ∷ []
 
-abbrev ms12000 : List ℕ
+abbrev pub ms12000 : List ℕ
 ms12000 = 0xE0 ∷ 0x5D ∷ []
 
-abbrev ms12001 : List ℕ
+abbrev pub ms12001 : List ℕ
 ms12001 = 0xE1 ∷ 0x5D ∷ []
 
-abbrev ms1000 : List ℕ
+abbrev pub ms1000 : List ℕ
 ms1000 = 0xE8 ∷ 0x07 ∷ []
 
-abbrev ms1001 : List ℕ
+abbrev pub ms1001 : List ℕ
 ms1001 = 0xE9 ∷ 0x07 ∷ []
 
-abbrev ms2000 : List ℕ
+abbrev pub ms2000 : List ℕ
 ms2000 = 0xD0 ∷ 0x0F ∷ []
 
-abbrev ms10000 : List ℕ
+abbrev pub ms10000 : List ℕ
 ms10000 = 0x90 ∷ 0x4E ∷ []
 
-abbrev ms10001 : List ℕ
+abbrev pub ms10001 : List ℕ
 ms10001 = 0x91 ∷ 0x4E ∷ []
 
-abbrev ms60000 : List ℕ
+abbrev pub ms60000 : List ℕ
 ms60000 = 0xE0 ∷ 0xD4 ∷ 0x03 ∷ []
 
-abbrev ms60001 : List ℕ
+abbrev pub ms60001 : List ℕ
 ms60001 = 0xE1 ∷ 0xD4 ∷ 0x03 ∷ []
 
-abbrev hour : List ℕ
+abbrev pub hour : List ℕ
 hour = 0x80 ∷ 0xDD ∷ 0xDB ∷ 0x01 ∷ []
 
 -- In U0.p, until the establishment fails.

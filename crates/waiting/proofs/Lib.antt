@@ -3,3 +3,4 @@ pub mod Always
 pub mod Channel
 pub mod Waiting
 pub mod Cases
+pub mod Sharp
