@@ -175,12 +175,12 @@ abbrev pub refusing : List ℕ → List ℕ
 refusing ms = 0x01 ∷ (setUp ++ (established ++ (terminates ++ (rejected ++ (ms ++ aborted)))))
 
 -- In U6 until the channel is lost, and available again at once.
-abbrev pub hearing-on : List ℕ → List ℕ
-hearing-on ms = 0x01 ∷ (listening ++ ((ms ++ noChannel) ++ (0x00 ∷ available)))
+abbrev pub hearingOn : List ℕ → List ℕ
+hearingOn ms = 0x01 ∷ (listening ++ ((ms ++ noChannel) ++ (0x00 ∷ available)))
 
 -- In U6, where the channel is lost, available again at once, and lost again.
-abbrev pub losing-again : List ℕ → List ℕ
-losing-again ms = 0x01 ∷ (listening ++ ((0x00 ∷ noChannel) ++ ((0x00 ∷ available) ++ (ms ++ noChannel))))
+abbrev pub losingAgain : List ℕ → List ℕ
+losingAgain ms = 0x01 ∷ (listening ++ ((0x00 ∷ noChannel) ++ ((0x00 ∷ available) ++ (ms ++ noChannel))))
 
 -- In U3 by version 2, until it is joined.
 abbrev pub inviting : List ℕ → List ℕ
@@ -208,8 +208,8 @@ pub record Answers : Type 0 where
   pub u3 : judgeOf own identity (invited ms60000) ≡ Accepted 4 anyJoining (Told (between 60000 60000))
   pub u3-over : judgeOf own identity (invited ms60001) ≡ Unexplained 4
   pub u5-first : judgeOf own identity (refusing hour) ≡ Accepted 5 anyJoining Untold
-  pub u6-heard : judgeOf own identity (hearing-on hour) ≡ Accepted 5 anyJoining Untold
-  pub u6-again : judgeOf own identity (losing-again hour) ≡ Accepted 6 anyJoining Untold
+  pub u6-heard : judgeOf own identity (hearingOn hour) ≡ Accepted 5 anyJoining Untold
+  pub u6-again : judgeOf own identity (losingAgain hour) ≡ Accepted 6 anyJoining Untold
   pub u3-second : judgeOf own identity (inviting hour) ≡ Accepted 2 anyJoining Untold
 
 pub answers : Answers
@@ -246,87 +246,6 @@ note time event state = record { time = time; event = event; state = state }
 abbrev pub Lasts : ℕ → State → List Noted → Type 0
 Lasts limit state log = (visit : Visit state log) × (visit .next .time ≡ visit .enters .time + limit)
 
-pub lasts-u0p : Lasts 5000 U0p (entriesOf First (calling ms5000))
-unfolding entries entriesIn numberAt groupsAt joined upTo smallAt runAt callAt receivedAt dataAt claimAt restAt entryAt hasEvent greatestState greatestActions carriesCall
-lasts-u0p = (
-  record {
-    before = [];
-    enters = note 0 1 1;
-    stays = [];
-    next = note 5000 7 0;
-    behind = [];
-    split = refl;
-    from-another = λ e. omega (arith, e);
-    there = (refl, tt);
-  },
-  refl,
-)
-
-pub lasts-u4 : Lasts 12000 U4 (entriesOf First (joining ms12000))
-unfolding entries entriesIn numberAt groupsAt joined upTo smallAt runAt callAt receivedAt dataAt claimAt restAt entryAt hasEvent greatestState greatestActions carriesCall
-lasts-u4 = (
-  record {
-    before = note 0 10 4 ∷ note 0 3 5 ∷ note 12000 16 0 ∷ note 12000 10 4 ∷ [];
-    enters = note 12000 3 5;
-    stays = [];
-    next = note 24000 11 7;
-    behind = [];
-    split = refl;
-    from-another = λ e. omega (arith, e);
-    there = (refl, tt);
-  },
-  refl,
-)
-
-pub lasts-u5 : Lasts 10000 U5 (entriesOf Second (asking 2 ms10000))
-unfolding entries entriesIn numberAt groupsAt joined upTo smallAt runAt callAt receivedAt dataAt claimAt restAt entryAt hasEvent greatestState greatestActions carriesCall
-lasts-u5 = (
-  record {
-    before = note 0 1 1 ∷ note 0 6 2 ∷ [];
-    enters = note 0 4 6;
-    stays = [];
-    next = note 10000 9 0;
-    behind = [];
-    split = refl;
-    from-another = λ e. omega (arith, e);
-    there = (refl, tt);
-  },
-  refl,
-)
-
-pub lasts-u3 : Lasts 60000 U3 (entriesOf Third (invited ms60000))
-unfolding entries entriesIn numberAt groupsAt joined upTo smallAt runAt callAt receivedAt dataAt claimAt restAt entryAt hasEvent greatestState greatestActions carriesCall
-lasts-u3 = (
-  record {
-    before = note 0 10 4 ∷ note 60000 19 0 ∷ [];
-    enters = note 60000 10 4;
-    stays = [];
-    next = note 120000 3 5;
-    behind = [];
-    split = refl;
-    from-another = λ e. omega (arith, e);
-    there = (refl, tt);
-  },
-  refl,
-)
-
--- An hour in U5, by version 1.
-pub lasts-u5-first : Lasts 3600000 U5 (entriesOf First (refusing hour))
-unfolding entries entriesIn numberAt groupsAt joined upTo smallAt runAt callAt receivedAt dataAt claimAt restAt entryAt hasEvent greatestState greatestActions carriesCall
-lasts-u5-first = (
-  record {
-    before = note 0 1 1 ∷ note 0 6 2 ∷ [];
-    enters = note 0 4 6;
-    stays = note 0 18 6 ∷ [];
-    next = note 3600000 9 0;
-    behind = [];
-    split = refl;
-    from-another = λ e. omega (arith, e);
-    there = (refl, (refl, tt));
-  },
-  refl,
-)
-
 -- In U6 so many milliseconds after a "no channel", and in it so many since it was entered.
 pub record Lacks (limit all : ℕ) (log : List Noted) : Type 0 where
   pub visit : Visit U6 log
@@ -334,40 +253,112 @@ pub record Lacks (limit all : ℕ) (log : List Noted) : Type 0 where
   pub lacks : visit .next .time ≡ channel .lost .time + limit
   pub lasts : visit .next .time ≡ visit .enters .time + all
 
--- The first "no channel" counts, and the second does not put it off.
-pub lacks-u6 : Lacks 3000 3000 (entriesOf First (losing ms1000))
-unfolding entries entriesIn numberAt groupsAt joined upTo smallAt runAt callAt receivedAt dataAt claimAt restAt entryAt hasEvent greatestState greatestActions carriesCall
-lacks-u6 = record {
-  visit = record {
-    before = note 0 10 4 ∷ note 0 3 5 ∷ [];
-    enters = note 0 11 7;
-    stays = note 0 12 7 ∷ note 2000 12 7 ∷ [];
-    next = note 3000 13 7;
-    behind = [];
-    split = refl;
-    from-another = λ e. omega (arith, e);
-    there = (refl, (refl, (refl, tt)));
-  };
-  channel = record { earlier = note 0 11 7 ∷ []; lost = note 0 12 7; later = note 2000 12 7 ∷ []; split = refl; no-channel = refl; none-available = (λ e. omega (arith, e), tt) };
-  lacks = refl;
-  lasts = refl;
-}
+-- Of U6 the first "no channel" counts, and a second does not put it off; and there may be an hour before it in which there is a channel.
+pub record Waits : Type 0 where
+  pub u0p : Lasts 5000 U0p (entriesOf First (calling ms5000))
+  pub u4 : Lasts 12000 U4 (entriesOf First (joining ms12000))
+  pub u5 : Lasts 10000 U5 (entriesOf Second (asking 2 ms10000))
+  pub u3 : Lasts 60000 U3 (entriesOf Third (invited ms60000))
+  pub u5-first : Lasts 3600000 U5 (entriesOf First (refusing hour))
+  pub u6 : Lacks 3000 3000 (entriesOf First (losing ms1000))
+  pub u6-late : Lacks 0 3600000 (entriesOf First (hearingOn hour))
 
--- After an hour in which there was a channel.
-pub lacks-u6-late : Lacks 0 3600000 (entriesOf First (hearing-on hour))
+pub waits : Waits
 unfolding entries entriesIn numberAt groupsAt joined upTo smallAt runAt callAt receivedAt dataAt claimAt restAt entryAt hasEvent greatestState greatestActions carriesCall
-lacks-u6-late = record {
-  visit = record {
-    before = note 0 10 4 ∷ note 0 3 5 ∷ [];
-    enters = note 0 11 7;
-    stays = note 3600000 12 7 ∷ [];
-    next = note 3600000 13 7;
-    behind = [];
-    split = refl;
-    from-another = λ e. omega (arith, e);
-    there = (refl, (refl, tt));
+waits = record {
+  u0p = (
+    record {
+      before = [];
+      enters = note 0 1 1;
+      stays = [];
+      next = note 5000 7 0;
+      behind = [];
+      split = refl;
+      from-another = λ e. omega (arith, e);
+      there = (refl, tt);
+    },
+    refl,
+  );
+  u4 = (
+    record {
+      before = note 0 10 4 ∷ note 0 3 5 ∷ note 12000 16 0 ∷ note 12000 10 4 ∷ [];
+      enters = note 12000 3 5;
+      stays = [];
+      next = note 24000 11 7;
+      behind = [];
+      split = refl;
+      from-another = λ e. omega (arith, e);
+      there = (refl, tt);
+    },
+    refl,
+  );
+  u5 = (
+    record {
+      before = note 0 1 1 ∷ note 0 6 2 ∷ [];
+      enters = note 0 4 6;
+      stays = [];
+      next = note 10000 9 0;
+      behind = [];
+      split = refl;
+      from-another = λ e. omega (arith, e);
+      there = (refl, tt);
+    },
+    refl,
+  );
+  u3 = (
+    record {
+      before = note 0 10 4 ∷ note 60000 19 0 ∷ [];
+      enters = note 60000 10 4;
+      stays = [];
+      next = note 120000 3 5;
+      behind = [];
+      split = refl;
+      from-another = λ e. omega (arith, e);
+      there = (refl, tt);
+    },
+    refl,
+  );
+  u5-first = (
+    record {
+      before = note 0 1 1 ∷ note 0 6 2 ∷ [];
+      enters = note 0 4 6;
+      stays = note 0 18 6 ∷ [];
+      next = note 3600000 9 0;
+      behind = [];
+      split = refl;
+      from-another = λ e. omega (arith, e);
+      there = (refl, (refl, tt));
+    },
+    refl,
+  );
+  u6 = record {
+    visit = record {
+      before = note 0 10 4 ∷ note 0 3 5 ∷ [];
+      enters = note 0 11 7;
+      stays = note 0 12 7 ∷ note 2000 12 7 ∷ [];
+      next = note 3000 13 7;
+      behind = [];
+      split = refl;
+      from-another = λ e. omega (arith, e);
+      there = (refl, (refl, (refl, tt)));
+    };
+    channel = record { earlier = note 0 11 7 ∷ []; lost = note 0 12 7; later = note 2000 12 7 ∷ []; split = refl; no-channel = refl; none-available = (λ e. omega (arith, e), tt) };
+    lacks = refl;
+    lasts = refl;
   };
-  channel = record { earlier = note 0 11 7 ∷ []; lost = note 3600000 12 7; later = []; split = refl; no-channel = refl; none-available = tt };
-  lacks = refl;
-  lasts = refl;
+  u6-late = record {
+    visit = record {
+      before = note 0 10 4 ∷ note 0 3 5 ∷ [];
+      enters = note 0 11 7;
+      stays = note 3600000 12 7 ∷ [];
+      next = note 3600000 13 7;
+      behind = [];
+      split = refl;
+      from-another = λ e. omega (arith, e);
+      there = (refl, (refl, tt));
+    };
+    channel = record { earlier = note 0 11 7 ∷ []; lost = note 3600000 12 7; later = []; split = refl; no-channel = refl; none-available = tt };
+    lacks = refl;
+    lasts = refl;
+  };
 }

@@ -7,10 +7,10 @@ use mathlib.Core.List.{List, [], _∷_}
 use native.Mathlib.Omega.{arith}
 use lib.Dec.{eqb}
 use lib.ListN.{length, getD}
-use borrow.Author.Tests.{eqb-true, eqb-false, eq-eqb, ne-eqb, not-true}
+use borrow.Author.Tests.{eqb-true, eqb-false, eq-eqb, ne-eqb}
 use Rattle.octets.proofs.Choice.{at-cond, never}
 use Rattle.codes.specs.declared.state.State.{State}
-use Rattle.codes.specs.declared.state.State.the-variants.{U0, U5, U6}
+use Rattle.codes.specs.declared.state.State.the-variants.{U0, U6}
 use Rattle.codes.specs.declared.protocol.Protocol.{Protocol}
 use Rattle.codes.specs.declared.protocol.Protocol.the-variants as Protocol
 use Rattle.codes.specs.declared.protocol.Protocol.the-variants.{Broadcast}
@@ -23,7 +23,7 @@ use Rattle.context.specs.Remembered.{returning}
 use Rattle.context.specs.Running.{runs}
 use Rattle.context.specs.States.{numberOf, same}
 use Rattle.context.proofs.States.{same-state}
-use Rattle.context.proofs.Whole.{and-left, and-right, if-so, ofTimers, at-timers, inStates, at-state}
+use Rattle.context.proofs.Whole.{if-so, ofTimers, at-timers}
 use Rattle.fitness.specs.Fitness.{timersFitBy, consistentBy}
 use Rattle.fitness.specs.Tables.{fitnessOf, timersFit, fitOf}
 use Rattle.fitness.proofs.Tables.{fit-timers}
@@ -33,6 +33,7 @@ use Rattle.transitions.specs.declared.Decision.the-variants.{Take, NoStep, Igno
 use Rattle.transitions.specs.Table.{to, act, set-unless-running, taken, stepTable, happenedIn, decidedBy, timersAfter}
 use Rattle.transitions.proofs.Every.{Test, passes, decided-holds}
 use Rattle.transitions.proofs.Decided.{OfTaken}
+use Rattle.transitions.proofs.InState.{happened-in-state, no-message}
 use Rattle.call.specs.declared.Due.{Due}
 use Rattle.call.specs.declared.Due.the-variants.{Steps, Ignored, Reported, Refused}
 use Rattle.call.specs.declared.Event.the-variants as Event
@@ -43,16 +44,14 @@ use Rattle.call.specs.Events.{bare, carrying, seenOf}
 use Rattle.call.specs.Step.{afterwards, ignored, noStep, reportedWith, statusTold, withParameters, parametersSet, carriedOut, stepBy, stepValue}
 use Rattle.call.specs.Talk.{withValue, adopted, sentIn, flushed}
 use Rattle.call.specs.Waiting.{numberDue}
-use Rattle.call.proofs.Invitation.{step-in}
 use Rattle.codes.specs.Attributes.{parametersOf}
 use Rattle.message.specs.declared.Own.{Own}
-use Rattle.received.specs.Due.{dueOf}
 use Rattle.received.proofs.Rules.{every-due}
 use Rattle.step_arguments.specs.Arguments.{settingsOut, outOfRange}
 use Rattle.radio.specs.declared.Happened.{Happened}
 use Rattle.radio.specs.declared.Told.{Told}
 use Rattle.radio.specs.declared.Told.the-variants.{Is, NoEvent}
-use Rattle.radio.specs.Step.{eventOf, toldDue, dueTo, reactedTo, Reaction, refusalOf, stepOf}
+use Rattle.radio.specs.Step.{eventOf, toldDue, dueTo, reactedTo, Reaction, refusalOf}
 use Rattle.radio.proofs.Numbers.{IsOf, event-of-number, message-number}
 use Rattle.radio.proofs.Range.{passed}
 use Rattle.radio.proofs.Reacting.{of-step, step-by}
@@ -116,10 +115,11 @@ module _ (table : Table) (x : Context) where
         (λ a. flushed-lost _ h) (λ a. flushed-lost _ h))
         (λ u. reported-lost 98)
 
--- ---- only "channel available" stops it: computed over the rows
+-- ---- what the rows say, computed
 
+-- A row that leads to U6, but for that of "channel available", leaves T_no channel running if it ran, and that of "no channel" leaves it running in any case.
 abbrev runsOn : Test
-runsOn n s t r d = not (same (d .next) U6) || (eqb n 13 || (not (isOn NoChannel t) || isOn NoChannel (timersAfter d t)))
+runsOn n s t r d = not (same (d .next) U6) || (eqb n 13 || (not (eqb n 12 || isOn NoChannel t) || isOn NoChannel (timersAfter d t)))
 
 runs-on-first : passes runsOn (stepTable First) ≡ true
 unfolding stepTable protocolOf returning withTimer
@@ -144,6 +144,17 @@ runs-on Second b = runs-on-second
 runs-on Third b = runs-on-third
 runs-on Group b = never (ap isBroadcast b)
 
+module _ (table : Table) (broadcast : protocolOf table ≡ Broadcast) (x : Context) where
+  stays-on : (n : ℕ) (d : Taken) → runsOn n (x .state) (x .timers) (x .remembered) d ≡ true → eqb n 13 ≡ false → (eqb n 12 || x .timers .nochannel) ≡ true → RowLost (x .timers) d
+  stays-on n d e other on q = if-so (eqb n 12 || isOn NoChannel (x .timers)) _ (rw other at (if-so (same (d .next) U6) _ e (eq-eqb _ _ q))) on
+
+  decided-lost : (n code : ℕ) → eqb n 13 ≡ false → (eqb n 12 || x .timers .nochannel) ≡ true → OfTaken (RowLost (x .timers)) (decidedBy (stepTable table) x n code)
+  decided-lost =
+      decided-holds runsOn (λ k d. eqb k 13 ≡ false → (eqb k 12 || x .timers .nochannel) ≡ true → OfTaken (RowLost (x .timers)) d) x (λ k d e. stays-on k d e) (λ k other on. tt)
+      (λ cause other on. tt) (stepTable table) (runs-on table broadcast) (λ u other on. tt) (λ other on. tt) (λ u other on. tt)
+
+-- ---- only "channel available" stops it
+
 -- An event's number where it steps: a message's is 18, and that of any other is the number it was given by.
 number-due : (table : Table) (identity : List ℕ) (x : Context) (h : Happened) (s : List ℕ) → (h .number ≡ 13 → ⊥) → eqb (numberDue (dueTo table identity x h s)) 13 ≡ false
 unfolding dueTo toldDue seenOf
@@ -160,19 +171,15 @@ number-due table identity x h s n =
     told (Is event) p = subst (λ (seen : Seen). eqb (seen .number) 13 ≡ false) (sym p) (carried (eqb (h .number) 1 || (eqb (h .number) 2 || eqb (h .number) 10)))
     told NoEvent p = refl
 
+or-true : (a b : Bool) → b ≡ true → (a || b) ≡ true
+or-true true b e = refl
+or-true false b e = e
+
 module _ (table : Table) (broadcast : protocolOf table ≡ Broadcast) (x : Context) (on : x .timers .nochannel ≡ true) where
-  stays-on : (n : ℕ) (d : Taken) → runsOn n (x .state) (x .timers) (x .remembered) d ≡ true → eqb n 13 ≡ false → RowLost (x .timers) d
-  stays-on n d e other q = if-so (isOn NoChannel (x .timers)) _ (rw other at (if-so (same (d .next) U6) _ e (eq-eqb _ _ q))) on
-
-  decided-lost : (n code : ℕ) → eqb n 13 ≡ false → OfTaken (RowLost (x .timers)) (decidedBy (stepTable table) x n code)
-  decided-lost =
-      decided-holds runsOn (λ k d. eqb k 13 ≡ false → OfTaken (RowLost (x .timers)) d) x (λ k d e other. stays-on k d e other) (λ k other. tt) (λ cause other. tt)
-      (stepTable table) (runs-on table broadcast) (λ u other. tt) (λ other. tt) (λ u other. tt)
-
   settled-lost : (due : Due) → eqb (numberDue due) 13 ≡ false → LostIf (settled table x due .context)
   unfolding settledBy stepBy ignored noStep
   settled-lost (Steps event) other =
-      carried-lost table x (λ e. on) (decidedBy (stepTable table) x (seenOf event .number) (seenOf event .code)) (seenOf event) (decided-lost (seenOf event .number) (seenOf event .code) other)
+      carried-lost table x (λ e. on) (decidedBy (stepTable table) x (seenOf event .number) (seenOf event .code)) (seenOf event) (decided-lost table broadcast x (seenOf event .number) (seenOf event .code) other (or-true (eqb (seenOf event .number) 12) _ on))
   settled-lost (Ignored reason) other = λ e. on
   settled-lost (Reported cause) other = reported-lost table x (λ e. on) cause
   settled-lost Refused other = λ e. on
@@ -196,64 +203,22 @@ row-in-u6 Second x b = refl
 row-in-u6 Third x b = refl
 row-in-u6 Group x b = never (ap isBroadcast b)
 
-row-sets : (x : Context) → RowLost (x .timers) (lostRow x)
-unfolding withTimer
-row-sets x q = go (x .timers .nochannel) refl
-  where
-    go : (b : Bool) → x .timers .nochannel ≡ b → timersAfter (lostRow x) (x .timers) .nochannel ≡ true
-    go true on = rw on
-    go false on = rw on
-
--- Elsewhere it has none.
-abbrev isNone : Decision → Bool
-isNone (Take d) = false
-isNone NoStep = true
-isNone Ignore = false
-isNone (Report cause) = false
-isNone TellStatus = false
-isNone SetParameters = false
-
-abbrev elsewhereNone : Table → Context → State → Bool
-elsewhereNone table x s = same s U6 || isNone (happenedIn (stepTable table) s x 12)
-
-none-elsewhere : (table : Table) (x : Context) → protocolOf table ≡ Broadcast → inStates (elsewhereNone table x) ≡ true
-unfolding happenedIn stepTable protocolOf
-none-elsewhere First x b = refl
-none-elsewhere Second x b = refl
-none-elsewhere Third x b = refl
-none-elsewhere Group x b = never (ap isBroadcast b)
-
-none-then : (d : Decision) → isNone d ≡ true → d ≡ NoStep
-none-then (Take d) e = never e
-none-then NoStep e = refl
-none-then Ignore e = never e
-none-then (Report cause) e = never e
-none-then TellStatus e = never e
-none-then SetParameters e = never e
-
-seen-lost : seenOf Event.NoChannel ≡ bare 12
-unfolding seenOf
-seen-lost = refl
-
-otherwise : (a b : Bool) → (a || b) ≡ true → a ≡ false → b ≡ true
-otherwise true b e f = never (sym f)
-otherwise false b e f = e
-
 module _ (table : Table) (broadcast : protocolOf table ≡ Broadcast) (x : Context) where
+  -- In U6 that row is taken; elsewhere none leads there.
   step-lost : LostIf (stepValue table x Event.NoChannel .context)
-  unfolding carriedOut noStep
+  unfolding stepBy seenOf
   step-lost = go (same (x .state) U6) refl
     where
+      sets : OfTaken (RowLost (x .timers)) (decidedBy (stepTable table) x 12 0)
+      sets = decided-lost table broadcast x 12 0 refl refl
+
       go : (b : Bool) → same (x .state) U6 ≡ b → LostIf (stepValue table x Event.NoChannel .context)
       go true here =
-          subst (λ (r : Settled). LostIf (r .context))
-          (sym (step-in table x U6 Event.NoChannel 12 seen-lost (λ e. omega (arith, e)) (same-state (x .state) U6 here) (Take (lostRow x)) (row-in-u6 table x broadcast)))
-          (row-lost table x (lostRow x) (bare 12) (row-sets x))
-      go false there =
-          subst (λ (r : Settled). LostIf (r .context))
-          (sym (step-in table x (x .state) Event.NoChannel 12 seen-lost (λ e. omega (arith, e)) refl NoStep
-          (none-then _ (otherwise (same (x .state) U6) _ (at-state (elsewhereNone table x) (none-elsewhere table x broadcast) (x .state)) there))))
-          (λ e. absurd (eqb-false _ _ there e))
+          let row : decidedBy (stepTable table) x 12 0 ≡ Take (lostRow x)
+          = sym (no-message (stepTable table) x 12 0 (Take (lostRow x)) (λ e. omega (arith, e))
+          (happened-in-state (stepTable table) U6 x 12 (Take (lostRow x)) (same-state (x .state) U6 here) (sym (row-in-u6 table x broadcast)))) in
+          subst (λ (d : Decision). LostIf (carriedOut (fitnessOf table) x d (bare 12) .context)) (sym row) (row-lost table x (lostRow x) (bare 12) (subst (OfTaken (RowLost (x .timers))) row sets))
+      go false there = carried-lost table x (λ e. absurd (eqb-false _ _ there e)) (decidedBy (stepTable table) x 12 0) (bare 12) sets
 
   -- "No channel" is never refused in a fit context, with settings in range; so its step is taken, where there is one.
   has-lost : hasEvent table 12 ≡ true

@@ -1,7 +1,7 @@
 -- A stretch of a log through which one timer runs is no longer than that timer: the running timer was started no later than the stretch began, keeps its start as long as
 -- it runs, and no entry comes later than its end.
 use Prim.Native.Nat.{ℕ, _+_, _≤_}
-use mathlib.Core.Path.{_≡_, refl, sym, ap, subst, _∙_}
+use mathlib.Core.Path.{_≡_, sym, ap, subst, _∙_}
 use mathlib.Core.Bool.{true}
 use mathlib.Core.List.{List, [], _∷_, _++_}
 use native.Mathlib.Omega.{arith}
@@ -12,7 +12,7 @@ use Rattle.context.specs.States.{numberOf}
 use Rattle.fitness.specs.Tables.{fitOf}
 use Rattle.message.specs.declared.Own.{Own}
 use Rattle.version.specs.declared.Table.{Table}
-use Rattle.judge_laws.specs.Log.{Log, done, torn, entry, Entry, Moment, Ordered, timeOf, next, Explained, Explains}
+use Rattle.judge_laws.specs.Log.{Log, done, torn, entry, Entry, Moment, Ordered, next, Explained, Explains}
 use Rattle.judge_laws.proofs.Start.{keeps-start}
 use Rattle.judge_laws.proofs.Right.{next-ordered}
 use Rattle.verdict.specs.Table.{GivenEvent, Claim, stepped, steps}

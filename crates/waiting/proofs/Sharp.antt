@@ -2,7 +2,7 @@
 -- logs and draws from a worked log (proofs/Cases) what it would have to grant.
 use Prim.Native.Nat.{ℕ, _+_, _≤_}
 use mathlib.Core.Path.{_≡_, refl}
-use mathlib.Core.Bool.{true, false}
+use mathlib.Core.Bool.{true}
 use mathlib.Core.List.{List}
 use native.Mathlib.Omega.{arith}
 use lib.Dec.{leb}
@@ -17,10 +17,9 @@ use Rattle.version.specs.declared.Table.{Table}
 use Rattle.version.specs.declared.Table.the-variants.{First, Second, Third}
 use Rattle.version.specs.declared.Known.the-variants.{Of}
 use Rattle.version.specs.Version.{tableOf, longest, protocolOf}
-use Rattle.verdict.specs.declared.Invitation.{Invitation}
 use Rattle.verdict.specs.declared.Invitation.the-variants.{Untold, Told}
 use Rattle.verdict.specs.Demand.{Begins}
-use Rattle.waiting.specs.Visits.{Noted, Visit, NoChannel}
+use Rattle.waiting.specs.Visits.{Visit, NoChannel}
 use Rattle.waiting.specs.Waiting.{AtMost, InAnyAccepted}
 use Rattle.waiting.proofs.Cases.{
   own,
@@ -37,17 +36,11 @@ use Rattle.waiting.proofs.Cases.{
   asking,
   invited,
   refusing,
-  hearing-on,
+  hearingOn,
   between,
   anyJoining,
   answers,
-  lasts-u0p,
-  lasts-u4,
-  lasts-u5,
-  lasts-u3,
-  lasts-u5-first,
-  lacks-u6,
-  lacks-u6-late,
+  waits,
 }
 
 -- A log of one's own that begins with a version of one octet.
@@ -66,51 +59,51 @@ begins-as number table s version known short = record {
 pub u0p-sharp : (limit : ℕ) → InAnyAccepted (λ version joining invitation log. AtMost limit U0p log) → 5000 ≤ limit
 unfolding numberAt groupsAt joined tableOf protocolOf begins-as
 u0p-sharp limit all =
-    let w : lasts-u0p .0 .next .time ≤ lasts-u0p .0 .enters .time + limit
-    = all own identity (calling ms5000) 2 anyJoining Untold (answers .u0p) (begins-as 1 First (calling ms5000) refl refl refl) refl (lasts-u0p .0) in
-    omega (arith, w, lasts-u0p .1)
+    let w : waits .u0p .0 .next .time ≤ waits .u0p .0 .enters .time + limit
+    = all own identity (calling ms5000) 2 anyJoining Untold (answers .u0p) (begins-as 1 First (calling ms5000) refl refl refl) refl (waits .u0p .0) in
+    omega (arith, w, waits .u0p .1)
 
 -- Of U4: the least timer reported, and not a millisecond earlier.
 pub u4-sharp : (earlier : ℕ) → InAnyAccepted (λ version joining invitation log. (visit : Visit U4 log) → visit .next .time + earlier ≤ visit .enters .time + joining .least) → earlier ≡ 0
 unfolding numberAt groupsAt joined tableOf protocolOf begins-as
 u4-sharp earlier all =
-    let w : lasts-u4 .0 .next .time + earlier ≤ lasts-u4 .0 .enters .time + 12000
-    = all own identity (joining ms12000) 6 (between 12000 12000) Untold (answers .u4) (begins-as 1 First (joining ms12000) refl refl refl) refl (lasts-u4 .0) in
-    omega (arith, w, lasts-u4 .1)
+    let w : waits .u4 .0 .next .time + earlier ≤ waits .u4 .0 .enters .time + 12000
+    = all own identity (joining ms12000) 6 (between 12000 12000) Untold (answers .u4) (begins-as 1 First (joining ms12000) refl refl refl) refl (waits .u4 .0) in
+    omega (arith, w, waits .u4 .1)
 
 -- Of U6: 3,000 ms after a "no channel",
 pub u6-sharp : (limit : ℕ)
     → InAnyAccepted (λ version joining invitation log. (visit : Visit U6 log) (channel : NoChannel visit) → visit .next .time ≤ channel .lost .time + limit) → 3000 ≤ limit
 unfolding numberAt groupsAt joined tableOf protocolOf begins-as
 u6-sharp limit all =
-    let w : lacks-u6 .visit .next .time ≤ lacks-u6 .channel .lost .time + limit
-    = all own identity (losing ms1000) 6 anyJoining Untold (answers .u6) (begins-as 1 First (losing ms1000) refl refl refl) refl (lacks-u6 .visit) (lacks-u6 .channel) in
-    omega (arith, w, lacks-u6 .lacks)
+    let w : waits .u6 .visit .next .time ≤ waits .u6 .channel .lost .time + limit
+    = all own identity (losing ms1000) 6 anyJoining Untold (answers .u6) (begins-as 1 First (losing ms1000) refl refl refl) refl (waits .u6 .visit) (waits .u6 .channel) in
+    omega (arith, w, waits .u6 .lacks)
 
 -- and not after entering it: that may be an hour.
 pub u6-not-from-entering : (limit : ℕ)
     → InAnyAccepted (λ version joining invitation log. (visit : Visit U6 log) (channel : NoChannel visit) → visit .next .time ≤ visit .enters .time + limit) → 3600000 ≤ limit
 unfolding numberAt groupsAt joined tableOf protocolOf begins-as
 u6-not-from-entering limit all =
-    let w : lacks-u6-late .visit .next .time ≤ lacks-u6-late .visit .enters .time + limit
-    = all own identity (hearing-on hour) 5 anyJoining Untold (answers .u6-heard) (begins-as 1 First (hearing-on hour) refl refl refl) refl (lacks-u6-late .visit) (lacks-u6-late .channel) in
-    omega (arith, w, lacks-u6-late .lasts)
+    let w : waits .u6-late .visit .next .time ≤ waits .u6-late .visit .enters .time + limit
+    = all own identity (hearingOn hour) 5 anyJoining Untold (answers .u6-heard) (begins-as 1 First (hearingOn hour) refl refl refl) refl (waits .u6-late .visit) (waits .u6-late .channel) in
+    omega (arith, w, waits .u6-late .lasts)
 
 -- Of U5: 10,000 ms for version 2 and later,
 pub u5-sharp : (limit : ℕ) → InAnyAccepted (λ version joining invitation log. 2 ≤ version → AtMost limit U5 log) → 10000 ≤ limit
 unfolding numberAt groupsAt joined tableOf protocolOf begins-as
 u5-sharp limit all =
-    let w : lasts-u5 .0 .next .time ≤ lasts-u5 .0 .enters .time + limit
-    = all own identity (asking 2 ms10000) 4 anyJoining Untold (answers .u5) (begins-as 2 Second (asking 2 ms10000) refl refl refl) refl (omega arith) (lasts-u5 .0) in
-    omega (arith, w, lasts-u5 .1)
+    let w : waits .u5 .0 .next .time ≤ waits .u5 .0 .enters .time + limit
+    = all own identity (asking 2 ms10000) 4 anyJoining Untold (answers .u5) (begins-as 2 Second (asking 2 ms10000) refl refl refl) refl (omega arith) (waits .u5 .0) in
+    omega (arith, w, waits .u5 .1)
 
 -- and for version 1 that may be an hour.
 pub u5-not-by-version-1 : (limit : ℕ) → InAnyAccepted (λ version joining invitation log. 1 ≤ version → AtMost limit U5 log) → 3600000 ≤ limit
 unfolding numberAt groupsAt joined tableOf protocolOf begins-as
 u5-not-by-version-1 limit all =
-    let w : lasts-u5-first .0 .next .time ≤ lasts-u5-first .0 .enters .time + limit
-    = all own identity (refusing hour) 5 anyJoining Untold (answers .u5-first) (begins-as 1 First (refusing hour) refl refl refl) refl (omega arith) (lasts-u5-first .0) in
-    omega (arith, w, lasts-u5-first .1)
+    let w : waits .u5-first .0 .next .time ≤ waits .u5-first .0 .enters .time + limit
+    = all own identity (refusing hour) 5 anyJoining Untold (answers .u5-first) (begins-as 1 First (refusing hour) refl refl refl) refl (omega arith) (waits .u5-first .0) in
+    omega (arith, w, waits .u5-first .1)
 
 -- Of U3: the least invitation timer reported, and not a millisecond earlier.
 pub u3-sharp : (earlier : ℕ)
@@ -118,6 +111,6 @@ pub u3-sharp : (earlier : ℕ)
     → earlier ≡ 0
 unfolding numberAt groupsAt joined tableOf protocolOf begins-as
 u3-sharp earlier all =
-    let w : lasts-u3 .0 .next .time + earlier ≤ lasts-u3 .0 .enters .time + 60000
-    = all own identity (invited ms60000) 4 anyJoining (Told (between 60000 60000)) (answers .u3) (begins-as 3 Third (invited ms60000) refl refl refl) refl (between 60000 60000) refl (lasts-u3 .0) in
-    omega (arith, w, lasts-u3 .1)
+    let w : waits .u3 .0 .next .time + earlier ≤ waits .u3 .0 .enters .time + 60000
+    = all own identity (invited ms60000) 4 anyJoining (Told (between 60000 60000)) (answers .u3) (begins-as 3 Third (invited ms60000) refl refl refl) refl (between 60000 60000) refl (waits .u3 .0) in
+    omega (arith, w, waits .u3 .1)

@@ -1,6 +1,6 @@
 -- Every accepted broadcast log keeps the promise: each limit by itself, and all of them from the judge's verdict on bytes.
-use Prim.Native.Nat.{ℕ, _+_, _≤_}
-use mathlib.Core.Path.{_≡_, refl, sym, ap, subst, _∙_}
+use Prim.Native.Nat.{ℕ}
+use mathlib.Core.Path.{_≡_, sym, ap, subst, _∙_}
 use mathlib.Core.Bool.{Bool, true, false}
 use mathlib.Core.List.{List, [], _∷_, _++_, append-assoc}
 use native.Mathlib.Omega.{arith}
@@ -36,7 +36,7 @@ use Rattle.verdict.proofs.Demand.{verdictAt, tells, judged-begins}
 use Rattle.verdict.specs.Table.{steps, unknowns, tellsInvitation}
 use Rattle.waiting.specs.Visits.{Noted, notedFrom, Each, In, Visit, NoChannel as Unanswered}
 use Rattle.waiting.specs.Waiting.{AtMost, InU0p, InU4, InU6, InU5, InU3, NobodyWaits, Promise}
-use Rattle.waiting.proofs.Run.{Runs, stretch}
+use Rattle.waiting.proofs.Run.{stretch}
 use Rattle.waiting.proofs.Always.{Always, mm-est-in-u0p, conn-req-in-u4, term-in-u5-second, term-in-u5-third, pres-in-u3, one-run}
 use Rattle.waiting.proofs.Channel.{isBroadcast, Lost, Loses, Lacks, one-loss}
 
