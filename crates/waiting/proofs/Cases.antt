@@ -253,7 +253,17 @@ pub record Lacks (limit all : ℕ) (log : List Noted) : Type 0 where
   pub lacks : visit .next .time ≡ channel .lost .time + limit
   pub lasts : visit .next .time ≡ visit .enters .time + all
 
--- Of U6 the first "no channel" counts, and a second does not put it off; and there may be an hour before it in which there is a channel.
+-- Whether or not a "channel available" followed it.
+pub record LacksAtFirst (limit : ℕ) (log : List Noted) : Type 0 where
+  pub visit : Visit U6 log
+  pub earlier : List Noted
+  pub lost : Noted
+  pub later : List Noted
+  pub split : visit .enters ∷ visit .stays ≡ earlier ++ (lost ∷ later)
+  pub no-channel : lost .event ≡ 12
+  pub lacks : visit .next .time ≡ lost .time + limit
+
+-- Of U6 the first "no channel" counts, and a second does not put it off; and there may be an hour in which there is a channel before it, and behind it.
 pub record Waits : Type 0 where
   pub u0p : Lasts 5000 U0p (entriesOf First (calling ms5000))
   pub u4 : Lasts 12000 U4 (entriesOf First (joining ms12000))
@@ -262,6 +272,8 @@ pub record Waits : Type 0 where
   pub u5-first : Lasts 3600000 U5 (entriesOf First (refusing hour))
   pub u6 : Lacks 3000 3000 (entriesOf First (losing ms1000))
   pub u6-late : Lacks 0 3600000 (entriesOf First (hearingOn hour))
+  pub u6-again : LacksAtFirst 3600000 (entriesOf First (losingAgain hour))
+  pub u3-second : Lasts 3600000 U3 (entriesOf Second (inviting hour))
 
 pub waits : Waits
 unfolding entries entriesIn numberAt groupsAt joined upTo smallAt runAt callAt receivedAt dataAt claimAt restAt entryAt hasEvent greatestState greatestActions carriesCall
@@ -361,4 +373,35 @@ waits = record {
     lacks = refl;
     lasts = refl;
   };
+  u6-again = record {
+    visit = record {
+      before = note 0 10 4 ∷ note 0 3 5 ∷ [];
+      enters = note 0 11 7;
+      stays = note 0 12 7 ∷ note 0 13 7 ∷ [];
+      next = note 3600000 12 7;
+      behind = [];
+      split = refl;
+      from-another = λ e. omega (arith, e);
+      there = (refl, (refl, (refl, tt)));
+    };
+    earlier = note 0 11 7 ∷ [];
+    lost = note 0 12 7;
+    later = note 0 13 7 ∷ [];
+    split = refl;
+    no-channel = refl;
+    lacks = refl;
+  };
+  u3-second = (
+    record {
+      before = [];
+      enters = note 0 10 4;
+      stays = [];
+      next = note 3600000 3 5;
+      behind = [];
+      split = refl;
+      from-another = λ e. omega (arith, e);
+      there = (refl, tt);
+    },
+    refl,
+  );
 }

@@ -179,7 +179,8 @@ module _ (table : Table) (broadcast : protocolOf table ≡ Broadcast) (x : Conte
   settled-lost : (due : Due) → eqb (numberDue due) 13 ≡ false → LostIf (settled table x due .context)
   unfolding settledBy stepBy ignored noStep
   settled-lost (Steps event) other =
-      carried-lost table x (λ e. on) (decidedBy (stepTable table) x (seenOf event .number) (seenOf event .code)) (seenOf event) (decided-lost table broadcast x (seenOf event .number) (seenOf event .code) other (or-true (eqb (seenOf event .number) 12) _ on))
+      carried-lost table x (λ e. on) (decidedBy (stepTable table) x (seenOf event .number) (seenOf event .code)) (seenOf event)
+      (decided-lost table broadcast x (seenOf event .number) (seenOf event .code) other (or-true (eqb (seenOf event .number) 12) _ on))
   settled-lost (Ignored reason) other = λ e. on
   settled-lost (Reported cause) other = reported-lost table x (λ e. on) cause
   settled-lost Refused other = λ e. on
@@ -217,7 +218,8 @@ module _ (table : Table) (broadcast : protocolOf table ≡ Broadcast) (x : Conte
           let row : decidedBy (stepTable table) x 12 0 ≡ Take (lostRow x)
           = sym (no-message (stepTable table) x 12 0 (Take (lostRow x)) (λ e. omega (arith, e))
           (happened-in-state (stepTable table) U6 x 12 (Take (lostRow x)) (same-state (x .state) U6 here) (sym (row-in-u6 table x broadcast)))) in
-          subst (λ (d : Decision). LostIf (carriedOut (fitnessOf table) x d (bare 12) .context)) (sym row) (row-lost table x (lostRow x) (bare 12) (subst (OfTaken (RowLost (x .timers))) row sets))
+          subst (λ (d : Decision). LostIf (carriedOut (fitnessOf table) x d (bare 12) .context)) (sym row)
+          (row-lost table x (lostRow x) (bare 12) (subst (OfTaken (RowLost (x .timers))) row sets))
       go false there = carried-lost table x (λ e. absurd (eqb-false _ _ there e)) (decidedBy (stepTable table) x 12 0) (bare 12) sets
 
   -- "No channel" is never refused in a fit context, with settings in range; so its step is taken, where there is one.

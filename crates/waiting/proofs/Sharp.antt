@@ -3,7 +3,7 @@
 use Prim.Native.Nat.{ℕ, _+_, _≤_}
 use mathlib.Core.Path.{_≡_, refl}
 use mathlib.Core.Bool.{true}
-use mathlib.Core.List.{List}
+use mathlib.Core.List.{List, _∷_, _++_}
 use native.Mathlib.Omega.{arith}
 use lib.Dec.{leb}
 use lib.ListN.{length}
@@ -19,7 +19,7 @@ use Rattle.version.specs.declared.Known.the-variants.{Of}
 use Rattle.version.specs.Version.{tableOf, longest, protocolOf}
 use Rattle.verdict.specs.declared.Invitation.the-variants.{Untold, Told}
 use Rattle.verdict.specs.Demand.{Begins}
-use Rattle.waiting.specs.Visits.{Visit, NoChannel}
+use Rattle.waiting.specs.Visits.{Noted, Visit, NoChannel}
 use Rattle.waiting.specs.Waiting.{AtMost, InAnyAccepted}
 use Rattle.waiting.proofs.Cases.{
   own,
@@ -37,6 +37,8 @@ use Rattle.waiting.proofs.Cases.{
   invited,
   refusing,
   hearingOn,
+  losingAgain,
+  inviting,
   between,
   anyJoining,
   answers,
@@ -89,6 +91,17 @@ u6-not-from-entering limit all =
     = all own identity (hearingOn hour) 5 anyJoining Untold (answers .u6-heard) (begins-as 1 First (hearingOn hour) refl refl refl) refl (waits .u6-late .visit) (waits .u6-late .channel) in
     omega (arith, w, waits .u6-late .lasts)
 
+-- Nor after one that a "channel available" followed: behind that it may be an hour too.
+pub u6-not-once-available : (limit : ℕ)
+    → InAnyAccepted (λ version joining invitation log. (visit : Visit U6 log) (earlier : List Noted) (lost : Noted) (later : List Noted)
+    → visit .enters ∷ visit .stays ≡ earlier ++ (lost ∷ later) → lost .event ≡ 12 → visit .next .time ≤ lost .time + limit) → 3600000 ≤ limit
+unfolding numberAt groupsAt joined tableOf protocolOf begins-as
+u6-not-once-available limit all =
+    let c = waits .u6-again in
+    let w : c .visit .next .time ≤ c .lost .time + limit
+    = all own identity (losingAgain hour) 6 anyJoining Untold (answers .u6-again) (begins-as 1 First (losingAgain hour) refl refl refl) refl (c .visit) (c .earlier) (c .lost) (c .later) (c .split) (c .no-channel) in
+    omega (arith, w, c .lacks)
+
 -- Of U5: 10,000 ms for version 2 and later,
 pub u5-sharp : (limit : ℕ) → InAnyAccepted (λ version joining invitation log. 2 ≤ version → AtMost limit U5 log) → 10000 ≤ limit
 unfolding numberAt groupsAt joined tableOf protocolOf begins-as
@@ -114,3 +127,11 @@ u3-sharp earlier all =
     let w : waits .u3 .0 .next .time + earlier ≤ waits .u3 .0 .enters .time + 60000
     = all own identity (invited ms60000) 4 anyJoining (Told (between 60000 60000)) (answers .u3) (begins-as 3 Third (invited ms60000) refl refl refl) refl (between 60000 60000) refl (waits .u3 .0) in
     omega (arith, w, waits .u3 .1)
+
+-- For version 2, which reports none, it may be an hour.
+pub u3-not-by-version-2 : (limit : ℕ) → InAnyAccepted (λ version joining invitation log. 2 ≤ version → AtMost limit U3 log) → 3600000 ≤ limit
+unfolding numberAt groupsAt joined tableOf protocolOf begins-as
+u3-not-by-version-2 limit all =
+    let w : waits .u3-second .0 .next .time ≤ waits .u3-second .0 .enters .time + limit
+    = all own identity (inviting hour) 2 anyJoining Untold (answers .u3-second) (begins-as 2 Second (inviting hour) refl refl refl) refl (omega arith) (waits .u3-second .0) in
+    omega (arith, w, waits .u3-second .1)
