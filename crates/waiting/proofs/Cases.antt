@@ -21,13 +21,13 @@ use Rattle.transitions.specs.Table.{stepTable, heardIn, happenedIn, decidedIn, 
 use Rattle.call.specs.Due.{settledBy}
 use Rattle.call.specs.Events.{seenMessage, seenOf}
 use Rattle.call.specs.Talk.{adopted, originating, noted, awaitingAfter, sentIn, flushed}
-use Rattle.call.specs.Step.{parametersAfter, valueAfter, referenceAfter, afterwards, noStep, carriedOut, stepBy}
+use Rattle.call.specs.Step.{parametersAfter, valueAfter, referenceAfter, afterwards, carriedOut, stepBy}
 use Rattle.message.specs.declared.Own.{Own}
 use Rattle.message.specs.Content.{lies}
 use Rattle.message.specs.Reading.{wholeOf, terminationRejectOf, bodyOf, readMessage}
 use Rattle.message.specs.Tables.{table, typeOf, headOf, written}
 use Rattle.reply.specs.Reply.{sent, hearing, rowOf, ownOf, statusDue, requestDue, replyOf}
-use Rattle.received.specs.Received.{sameOctets, transactionIs, awaitedIs, transactionFits, causeIn, typeCause, askedOf, isOther, Within}
+use Rattle.received.specs.Received.{sameOctets, transactionIs, awaitedIs, transactionFits, causeIn, typeCause, askedOf}
 use Rattle.received.specs.Due.{understoodDue, readingDue, dueOf}
 use Rattle.step_arguments.specs.Arguments.{settingsOut, outOfRange, argumentRefusal}
 use Rattle.radio.specs.Step.{eventOf, toldDue, dueTo, reactedTo, fitnessRefusal, refusalOf, stepOf}
@@ -213,7 +213,7 @@ pub record Answers : Type 0 where
   pub u3-second : judgeOf own identity (inviting hour) ≡ Accepted 2 anyJoining Untold
 
 pub answers : Answers
-unfolding judgeOf versionJudged invitationTold tellsInvitation tableOf settingsOut judgeTwo judge judgeFrom turn narrow entries entriesIn numberAt groupsAt joined upTo smallAt runAt callAt receivedAt dataAt claimAt restAt entryAt hasEvent greatestState greatestActions carriesCall agree parametersNumber weighs stepOf refusalOf fitnessRefusal argumentRefusal outOfRange reactedTo dueTo eventOf toldDue settledBy stepBy seenOf carriedOut decidedBy decidedIn stepTable heardIn happenedIn noStep afterwards withTimer parametersAfter entering startRow setRow valueAfter referenceAfter cleared fitBy consistentBy timersFitBy rememberedFitBy chooserFitBy pendingFitBy talkFitBy isCleared runningAmong remembering returning expiryOf lengthOf replyOf rowOf ownOf statusDue requestDue dueOf sameOctets fitnessOf protocolOf adopted originating noted awaitingAfter sentIn flushed discriminator countedAt within nextElement elementAmong elementFrom lies wholeOf terminationRejectOf bodyOf readMessage table typeOf headOf written sent hearing flagIn flagBy flagOf seenMessage understoodDue readingDue transactionIs awaitedIs transactionFits causeIn typeCause askedOf isOther Within
+unfolding judgeOf versionJudged invitationTold tellsInvitation tableOf settingsOut judgeTwo judge judgeFrom turn narrow entries entriesIn numberAt groupsAt joined upTo smallAt runAt callAt receivedAt dataAt claimAt restAt entryAt hasEvent greatestState greatestActions carriesCall agree parametersNumber weighs stepOf refusalOf fitnessRefusal argumentRefusal outOfRange reactedTo dueTo eventOf toldDue settledBy stepBy seenOf carriedOut decidedBy decidedIn stepTable heardIn happenedIn afterwards withTimer parametersAfter entering startRow setRow valueAfter referenceAfter cleared fitBy consistentBy timersFitBy rememberedFitBy chooserFitBy pendingFitBy talkFitBy isCleared runningAmong remembering returning expiryOf lengthOf replyOf rowOf ownOf statusDue requestDue dueOf sameOctets fitnessOf protocolOf adopted originating noted awaitingAfter sentIn flushed discriminator countedAt within nextElement elementAmong elementFrom lies wholeOf terminationRejectOf bodyOf readMessage table typeOf headOf written sent hearing flagIn flagBy flagOf seenMessage understoodDue readingDue transactionIs awaitedIs transactionFits causeIn typeCause askedOf
 answers = record {
   u0p = refl;
   u0p-over = refl;
