@@ -401,8 +401,8 @@ struct heidezirkel_mending {
 
 /* Mends a damaged log of `length` bytes: writes a copy that holds the longest run of entries from its start that the judge accepts under these settings, byte
  * for byte as they stood. So an accepted log comes back unchanged, with 0 dropped; the copy is always accepted, with `kept` entries and by the version of the
- * log; and mending a copy changes nothing. What ended the run (8 or 9) happened at entry kept + 1 of the log.
- * Where the version can't be read, as in a log of 0 bytes, nothing is kept, every byte is dropped, and the copy is the one byte 1.
+ * log; and mending a copy changes nothing. What ended the run (8 or 9) happened at entry kept + 1 of the log,
+ * or at entry 0 where the version can't be read: then, as in a log of 0 bytes, nothing is kept, every byte is dropped, and the copy is the one byte 1.
  * Answers 10 for over 65,536 bytes, then 4 for settings out of range, then 5 for a `room` under `length`, or of 0, each with nothing written; else 0. Only the
  * first mending.length octets of the copy's buffer are changed. The log and the buffer must not overlap: a log is not mended in place. */
 struct heidezirkel_mending heidezirkel_mend(const uint8_t settings[21], const uint8_t *log, size_t length, uint8_t *copy, size_t room);
