@@ -7,7 +7,6 @@ use crate::log::entry::Entry;
 use crate::log::judge::{judge as judge_log, Judgement};
 use crate::log::mend::mend as mend_log;
 use crate::log::record::record as record_entry;
-use crate::own::Own;
 use crate::tables::Table;
 
 /// `judge CKSN CLASSMARK IDENTITY LOG`
@@ -16,11 +15,7 @@ pub fn judge(fields: &[&[u8]]) -> Option<String> {
         return None;
     };
     let identity = octets(identity)?;
-    let own = Own {
-        key_number: small(key_number, 255)?,
-        classmark: exactly(classmark)?,
-        identity: &identity,
-    };
+    let own = own_of(key_number, classmark, &identity)?;
     Some(match judge_log(&own, &octets(log)?) {
         Judgement::TooLong => LOG_LONG.to_string(),
         Judgement::OutsideRange => OUTSIDE_RANGE.to_string(),
@@ -72,11 +67,7 @@ pub fn mend(fields: &[&[u8]]) -> Option<String> {
         return None;
     };
     let identity = octets(identity)?;
-    let own = Own {
-        key_number: small(key_number, 255)?,
-        classmark: exactly(classmark)?,
-        identity: &identity,
-    };
+    let own = own_of(key_number, classmark, &identity)?;
     let buffer_length = number(buffer_length, u32::MAX)?;
     Some(
         match mend_log(&own, &octets(log)?, buffer_length as usize) {

@@ -5,7 +5,6 @@ use crate::answer::CONTEXT_NOT_FIT;
 use crate::call::{Chooser, Pending};
 use crate::context::{Context, NOTHING_REMEMBERED};
 use crate::event::Event;
-use crate::own::Own;
 use crate::protocol::Protocol;
 use crate::reason::NO_REASON;
 use crate::state::{Parameters, State};
@@ -31,11 +30,7 @@ pub fn step(table: Table, fields: &[&[u8]]) -> Option<String> {
     };
     let context = context_of(table.protocol(), given)?;
     let identity = octets(identity)?;
-    let own = Own {
-        key_number: small(key_number, 255)?,
-        classmark: exactly(classmark)?,
-        identity: &identity,
-    };
+    let own = own_of(key_number, classmark, &identity)?;
     let buffer_length = number(buffer_length, u32::MAX)?;
     let event = event_of(event, u32::MAX, 255)?;
     Some(match context {

@@ -1,6 +1,8 @@
 //! The tokens of the line protocol: decimal numbers and lower-case hexadecimal
 //! octet strings, `-` for the empty one.
 
+use crate::own::Own;
+
 /// Decimal digits without a leading zero, at most `greatest`.
 pub fn number(token: &[u8], greatest: u32) -> Option<u32> {
     let plain = match token {
@@ -39,6 +41,15 @@ pub fn octets(token: &[u8]) -> Option<Vec<u8>> {
 /// An octet string of exactly so many octets.
 pub fn exactly<const LENGTH: usize>(token: &[u8]) -> Option<[u8; LENGTH]> {
     octets(token)?.try_into().ok()
+}
+
+/// The identity settings, `CKSN CLASSMARK IDENTITY`, of which the identity is read already.
+pub fn own_of<'a>(key_number: &[u8], classmark: &[u8], identity: &'a [u8]) -> Option<Own<'a>> {
+    Some(Own {
+        key_number: small(key_number, 255)?,
+        classmark: exactly(classmark)?,
+        identity,
+    })
 }
 
 /// A small number, or `-` for an absent one.
