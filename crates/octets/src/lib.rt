@@ -1,4 +1,6 @@
 // Octets that stand together: runs of a lent slice, the four of a call reference, those of a number; and a run of one lent slice copied to a place of another.
+#![tactic(auto)]
+
 ghost use Rattle.std.specs.Prelude.{◌≡◌, ◌+◌, ◌≤◌, length};
 ghost use Rattle.std.proofs.lemmas.List.Edits.{sets};
 ghost use Rattle.octets.specs.Little.{little};
