@@ -1,5 +1,7 @@
 // What happens in a call, and what a step of it comes to: events, what is due, why a message is ignored, and an event taken apart. The step itself is in
 // call_step.
+#![tactic(auto)]
+
 ghost use Rattle.std.specs.Prelude.{◌≡◌};
 ghost use Rattle.call.specs.Events.{no_reference, bare, carrying, heard, seen_message, seen_of};
 ghost use Rattle.call.specs.Reasons.{reason_number};

@@ -1,4 +1,6 @@
 // The step of a call, by value: what the step table's row for an event brings about, and what else befalls what happens.
+#![tactic(auto)]
+
 ghost use Rattle.std.specs.Prelude.{◌≡◌};
 ghost use Rattle.fitness.specs.Tables.{fitness_of};
 ghost use Rattle.transitions.specs.Table.{timers_after, remembered_after};

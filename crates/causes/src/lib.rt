@@ -1,4 +1,6 @@
 // Causes, 9.4.3, table 9.4: what the cause part of a cause element says.
+#![tactic(auto)]
+
 ghost use Rattle.std.specs.Prelude.{◌≡◌};
 ghost use Rattle.causes.specs.Causes.{cause_of, cause_said, retry_or_unspecific};
 

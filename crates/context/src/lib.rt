@@ -1,5 +1,7 @@
 // The context of a call: its state, parameters, timers, transaction value and reference, where a termination was asked from, and what only a group call keeps; what
 // a state starts with, and which flag is expected.
+#![tactic(auto)]
+
 ghost use Rattle.std.specs.Prelude.{◌≡◌};
 ghost use Rattle.context.specs.States.{number_of};
 ghost use Rattle.context.specs.Talk.{flag_in, flag_of, chooser_number};

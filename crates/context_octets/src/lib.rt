@@ -1,4 +1,6 @@
 // A context as the sixteen octets that a host in C keeps of it: read, where they are a context, and written.
+#![tactic(auto)]
+
 ghost use Rattle.std.specs.Prelude.{◌≡◌};
 ghost use Rattle.context_octets.specs.Octets.{chooser_at, context_of, four_number, is_kept, is_remembered, is_talk, octets_of, parameters_at, remembered_at, state_at, talk_at, talk_number, timers_at, timers_number, with_state};
 

@@ -1,4 +1,6 @@
 // Optional information elements, and value parts that a length octet counts. Octets stay in the lent slice.
+#![tactic(auto)]
+
 ghost use Rattle.std.specs.Prelude.{◌≡◌, ◌<◌, length};
 ghost use Rattle.element.specs.Elements.{within, next_element, element_from};
 ghost use Rattle.element.specs.Counted.{counted_at};

@@ -1,4 +1,6 @@
 // The step table's rows of events, state by state: what it says of an event's number and, for a message, its type code.
+#![tactic(auto)]
+
 ghost use Rattle.std.specs.Prelude.{◌≡◌};
 ghost use Rattle.codes.specs.declared.state.State.TheVariants.{U0, U0p, U1, U2, U3, U4, U5, U6};
 ghost use Rattle.codes.specs.declared.protocol.Protocol.TheVariants.{Broadcast};

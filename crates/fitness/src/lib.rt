@@ -1,4 +1,6 @@
 // Which contexts are fit, and which parameters are consistent with a state, by a step table.
+#![tactic(auto)]
+
 ghost use Rattle.std.specs.Prelude.{◌≡◌, false, ◌&&◌};
 ghost use Rattle.codes.specs.declared.state.State.TheVariants.{U3, U5};
 ghost use Rattle.context.specs.States.{among};

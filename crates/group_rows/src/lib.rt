@@ -1,4 +1,6 @@
 // The step table's rows of a group call, 24.068, 6.2 to 6.5: what it says of an event's number and of a message's type, state by state.
+#![tactic(auto)]
+
 ghost use Rattle.std.specs.Prelude.{◌≡◌, ◌++◌};
 ghost use Rattle.codes.specs.declared.protocol.Protocol.TheVariants.{Group};
 ghost use Rattle.codes.specs.declared.state.State.TheVariants.{U0, U0p, U1, U3, U4, U5, U2sl, U2wr, U2r, U2ws, U2sr, U2nc};

@@ -1,4 +1,6 @@
 // The host's side: its one context, lent to be changed in place. Nothing here calls it (the library for C takes octets): it is there for hosts in Rattle, in the form that document 01 names.
+#![tactic(auto)]
+
 ghost use Rattle.std.specs.Prelude.{◌≡◌, length};
 ghost use Rattle.std.proofs.lemmas.List.Edits.{sets};
 ghost use Rattle.version.specs.Version.{newest};

@@ -1,4 +1,6 @@
 // The log judge over the octets that a host in C keeps of its settings, its verdict in numbers.
+#![tactic(auto)]
+
 ghost use Rattle.std.specs.Prelude.{◌≡◌, ◌+◌, ◌≤◌, length};
 ghost use Rattle.octets.specs.Run.{part};
 ghost use Rattle.verdict.specs.Judge.{judge_of};

@@ -1,4 +1,6 @@
 // The time of a log: what an entry leaves of the joining timers and of the invitation timers, by how long the timer that runs before it has run. On numbers alone.
+#![tactic(auto)]
+
 ghost use Rattle.std.specs.Prelude.{◌≡◌};
 ghost use Rattle.judge_time.specs.Clock.{astray, greatest_left, least_left, left_with, started_at, tick_of, untimely_at, while_running, window_left};
 

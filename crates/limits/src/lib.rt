@@ -1,4 +1,6 @@
 // Whether the fields of a message are as wide and as long as clauses 8 and 9 draw, and lie within the lent octets: what a writer asks before it writes.
+#![tactic(auto)]
+
 ghost use Rattle.std.specs.Prelude.{◌≡◌};
 ghost use Rattle.limits.specs.Limits.{run_fits, reject_fits, half_fits, half_count, status_fits};
 

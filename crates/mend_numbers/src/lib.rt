@@ -1,4 +1,6 @@
 // A damaged log mended, over the octets that a host in C keeps of its settings; what was done in numbers.
+#![tactic(auto)]
+
 ghost use Rattle.std.specs.Prelude.{◌≡◌, ◌+◌, ◌≤◌, length};
 ghost use Rattle.octets.specs.Run.{part};
 ghost use Rattle.mend.specs.Mending.{Mends, ending_number};

@@ -1,4 +1,6 @@
 // The nine messages of broadcast and group call control, clauses 8 and 9 of GSM 04.69 and 24.068, and how they are read. Runs of octets stay in the lent slice.
+#![tactic(auto)]
+
 mod kinds;
 
 ghost use Rattle.std.specs.Prelude.{◌≡◌};

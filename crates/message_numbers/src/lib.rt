@@ -1,4 +1,6 @@
 // Messages as numbers, for callers in C: reading octets into a struct of numbers, and writing octets from one. Runs of octets stay where they lie.
+#![tactic(auto)]
+
 mod back;
 mod kinds;
 

@@ -1,4 +1,6 @@
 // The step table's rows of messages, state by state: what it says of a message of a type.
+#![tactic(auto)]
+
 ghost use Rattle.std.specs.Prelude.{◌≡◌};
 ghost use Rattle.codes.specs.declared.state.State.TheVariants.{U0p, U1, U2, U5, U2sl};
 ghost use Rattle.codes.specs.MessageTypes.{CONNECT, TERMINATION-REJECT};

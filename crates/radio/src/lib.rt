@@ -1,5 +1,7 @@
 // The step as the host has it: an event as a number with its data, a received message as octets, a reply written into a lent buffer.
 // The context goes in and comes back by value. It goes by the step table that it is given.
+#![tactic(auto)]
+
 ghost use Rattle.std.specs.Prelude.{◌≡◌, length};
 ghost use Rattle.std.proofs.lemmas.List.Edits.{sets};
 ghost use Rattle.version.specs.Version.{newest};

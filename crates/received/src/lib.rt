@@ -1,4 +1,6 @@
 // Received messages: the six rules of document 01, in their order.
+#![tactic(auto)]
+
 ghost use Rattle.std.specs.Prelude.{◌≡◌, length, ◌+◌, ◌≤◌};
 ghost use Rattle.octets.specs.Run.{part};
 ghost use Rattle.received.specs.Received.{same_octets, transaction_is, awaited_is, transaction_fits, must_name_us, cause_in, type_cause, asked_of, is_other, Within};

@@ -1,4 +1,6 @@
 // What the mobile station sends: the message that a step decides on, written over the start of the lent reply buffer.
+#![tactic(auto)]
+
 ghost use Rattle.std.specs.Prelude.{◌≡◌, [], ◌∷◌, cond, ◌≤◌, ◌+◌, ◌%◌, length, get_or};
 ghost use Rattle.std.proofs.lemmas.List.Edits.{sets};
 ghost use Rattle.octets.specs.Run.{part};

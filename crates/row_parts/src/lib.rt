@@ -1,4 +1,6 @@
 // Parts of the step table's rows: those that lead to U0, those that differ from table to table, and those that hold only where something is true.
+#![tactic(auto)]
+
 ghost use Rattle.std.specs.Prelude.{◌≡◌, cond};
 ghost use Rattle.codes.specs.declared.state.State.TheVariants.{U0, U2, U3};
 ghost use Rattle.codes.specs.declared.protocol.Protocol.TheVariants.{Broadcast};

@@ -1,5 +1,7 @@
 // The settings file (document 01, "Settings file"): five lines, any order, each once. A file that is not fit is refused
 // with the number of its first bad line, why, and settings that are all zero: no line is skipped, and no default stands in.
+#![tactic(auto)]
+
 ghost use Rattle.std.specs.Prelude.{◌≡◌};
 ghost use Rattle.settings.specs.Settings.{refused_at, end_of, settings_of};
 

@@ -1,4 +1,6 @@
 // One line of the settings file (document 01, "Settings file"): a name, and the value behind it. Each name once.
+#![tactic(auto)]
+
 ghost use Rattle.std.specs.Prelude.{◌≡◌};
 ghost use Rattle.settings_line.specs.Line.{starts, key_of, classmark_of, identity_of, joining_of, invitation_of, setting_of, stopped_by, once, turn_of};
 

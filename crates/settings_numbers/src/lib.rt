@@ -1,4 +1,6 @@
 // The settings file, read into the octets that a host in C keeps of the settings; what is told of it in numbers.
+#![tactic(auto)]
+
 ghost use Rattle.std.specs.Prelude.{◌≡◌};
 ghost use Rattle.settings.specs.Settings.{settings_of};
 ghost use Rattle.settings_numbers.specs.Configuring.{fault_number, kept_octets, settings_shown};

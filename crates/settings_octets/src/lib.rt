@@ -1,5 +1,7 @@
 // The settings as the twenty-one octets that a host in C keeps of them: 0 key number, 1 to 3 classmark, 4 length of the own identity,
 // 5 to 12 the identity, 13 to 16 the joining timer, 17 to 20 the invitation timer, each in milliseconds, low octet first.
+#![tactic(auto)]
+
 ghost use Rattle.std.specs.Prelude.{◌≡◌, ◌+◌, ◌≤◌};
 ghost use Rattle.settings_octets.specs.Octets.{identity_run, length_octet, octets_of, own_of, run_of};
 

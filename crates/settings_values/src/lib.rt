@@ -1,4 +1,6 @@
 // The values of a settings file (document 01, "Settings file"): what they are, and how each is read from the text behind its name.
+#![tactic(auto)]
+
 ghost use Rattle.std.specs.Prelude.{◌<◌, ◌≡◌};
 ghost use Rattle.settings_values.specs.Digits.{digit};
 ghost use Rattle.settings_values.specs.Values.{classmark_read, decimal_of, hex_of, identity_read, invitation_read, joining_read, key_read, milliseconds_read};

@@ -1,4 +1,6 @@
 // The tests of a step's arguments, whatever the context: the reply buffer, the length of a received message, and what is out of range.
+#![tactic(auto)]
+
 ghost use Rattle.std.specs.Prelude.{◌≡◌};
 ghost use Rattle.step_arguments.specs.Arguments.{settings_out, out_of_range, argument_refusal};
 

@@ -1,4 +1,6 @@
 // The step over the octets that a host in C keeps of its context and its settings, an event and an outcome in numbers. It goes by the step table that it is given.
+#![tactic(auto)]
+
 ghost use Rattle.std.specs.Prelude.{◌≡◌, ◌+◌, ◌≤◌, length};
 ghost use Rattle.std.proofs.lemmas.List.Edits.{sets};
 ghost use Rattle.octets.specs.Run.{part};

@@ -1,5 +1,7 @@
 // What only a group call keeps, step by step: which side chose the transaction value, whether one is awaited, and what waits for COMM. In a broadcast call it is left
 // as it is.
+#![tactic(auto)]
+
 ghost use Rattle.std.specs.Prelude.{◌≡◌};
 ghost use Rattle.talk.specs.Quiet.{is_quiet};
 ghost use Rattle.call.specs.Talk.{noted, with_value, adopted, originating, awaiting_after, sent_in, requested, answered, flushed};

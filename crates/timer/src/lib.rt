@@ -1,4 +1,6 @@
 // The timers: which there are, and of each its number, its length and the event that is its expiry. Where a timer runs is no matter of this crate.
+#![tactic(auto)]
+
 ghost use Rattle.std.specs.Prelude.{◌≡◌};
 ghost use Rattle.timer.specs.Timers.{timer_number, running_among, expiry_of, length_of, with_timer};
 

@@ -1,4 +1,6 @@
 // What the step table says of an event in a context. The table itself stands in specs/Table; the code that follows it is in message_rows, event_rows and group_rows.
+#![tactic(auto)]
+
 use codes::state::State;
 use timer::Timer;
 

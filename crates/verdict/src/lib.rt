@@ -1,5 +1,7 @@
 // What the log judge answers, as a type; its meaning stands in specs/ and the promises about it in proofs/.
 // The judge itself is the crate above.
+#![tactic(auto)]
+
 use timer::Window;
 
 // What is told of the invitation timer: nothing by a table that has none; else its least and its greatest length.

@@ -1,4 +1,6 @@
 // Writing the nine messages of broadcast and group call control, clauses 8 and 9 of GSM 04.69 and 24.068, into a lent buffer.
+#![tactic(auto)]
+
 mod kinds;
 
 ghost use Rattle.std.specs.Prelude.{◌≡◌, ◌≤◌};

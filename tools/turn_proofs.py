@@ -1,0 +1,426 @@
+#!/usr/bin/env python3
+"""Turns the proof frames of older Rattle (proofs/F/Proof.antt with `tie.close (tie.spec ..)`) into Invariants.antt and Answers.antt.
+
+usage: python3 tools/turn_proofs.py CRATE [FUNCTION..]     in the repository; each crate below CRATE is proved
+
+It asks `rt check --generated DIR --old-names` for each goal's old and new name. An answer that only says `search rules` goes; where the frame opens definitions for all its answers
+each return keeps that line. In the new form every step is a field of `c`: the way back over `.before` goes, and a step gets its new name.
+A Proof.antt that it can't read stays, and is told. What it writes need not check: `rt check` decides.
+"""
+
+import json
+import os
+import re
+import shutil
+import subprocess
+import sys
+
+ROOT = os.path.dirname(os.path.dirname(os.path.realpath(__file__)))
+ID = r"[^\s(){}\[\].;,:@\"«»→∷λ]+"
+RESERVED = "data record deriving module where use mod pub package open as unfoldable abbrev axiom unfold unfolding ruleset mutual infix infixl infixr elim let in do".split()
+
+
+def generated(crate):
+    to = f"/tmp/turn-proofs-{os.getpid()}"
+    shutil.rmtree(to, ignore_errors=True)
+    said = subprocess.run(["rt", "check", "--generated", to, "--old-names"], cwd=f"{ROOT}/crates/{crate}", capture_output=True, text=True)
+    try:
+        with open(f"{to}/names.json", encoding="utf-8") as f:
+            return json.load(f)
+    except OSError:
+        sys.exit(said.stdout[-3000:] + said.stderr[-3000:])
+    finally:
+        shutil.rmtree(to, ignore_errors=True)
+
+
+class Cant(Exception):
+    pass
+
+
+def arguments(text):
+    """The arguments of a call as they stand: names, and texts in parentheses."""
+    out, at = [], 0
+    while at < len(text):
+        if text[at].isspace():
+            at += 1
+        elif text.startswith("--", at):
+            at = text.index("\n", at)
+        elif text[at] == "(":
+            depth, start = 0, at
+            while True:
+                depth += text[at] in "([{"
+                depth -= text[at] in ")]}"
+                at += 1
+                if not depth:
+                    break
+            out.append(text[start:at])
+        else:
+            m = re.match(r"[^\s()]+", text[at:])
+            out.append(m.group(0))
+            at += m.end()
+    return out
+
+
+def blocks(text):
+    """The declarations of a file, each with its comment."""
+    out, lines, pending = [], [], []
+    for line in text.split("\n"):
+        if line.startswith("--") or not line.strip():
+            pending.append(line)
+        elif line[0].isspace() or line[0] in ")]}" or (lines and line.split()[0].rstrip(":") == name_of(lines[0])) or line.startswith("unfolding"):
+            lines += [l for l in pending if l.strip()] if line[0].isspace() else []
+            pending = []
+            lines.append(line)
+        else:
+            if lines:
+                out.append("\n".join(lines))
+            comment = []
+            for l in pending:
+                comment = comment + [l] if l.strip() else comment
+            lines, pending = [line], []
+            notes.append((line, comment))
+    if lines:
+        out.append("\n".join(lines))
+    return out
+
+
+notes = []
+
+
+def name_of(line):
+    words = [w for w in line.split() if w not in ("pub", "abbrev", "unfoldable")]
+    return words[0].rstrip(":") if words else ""
+
+
+class Frame:
+    def __init__(self, crate, path, names, text):
+        self.crate, self.path, self.names, self.text = crate, path, names, text
+        self.places = names["places"]
+        self.index = {p[0]: i for i, p in enumerate(self.places)}
+        self.arms = names["arms"]
+        self.helpers = {}
+        self.read()
+
+    def read(self):
+        notes.clear()
+        self.uses = [b for b in re.findall(r"(?m)^use .*$", self.text)]
+        body = re.sub(r"(?m)^use .*\n", "", self.text)
+        self.head = re.match(r"(?:--.*\n)*", self.text).group(0)
+        body = body[len(re.match(r"(?:--.*\n)*", body).group(0)) :]
+        self.blocks = blocks(body)
+        self.notes = {name_of(l): c for l, c in notes}
+        self.decl = {}
+        for b in self.blocks:
+            self.decl[name_of(b)] = b
+        spec = next((b for b in self.blocks if "tie.close" in b and "tie.spec" in b), None)
+        self.cycle = False
+        if not spec and self.path.split("/")[-1].startswith("+"):
+            spec = next((b for b in self.blocks if "lts.spec" in b), None)
+            self.cycle = bool(spec)
+        if not spec:
+            raise Cant("no tie.close (tie.spec ..)")
+        self.spec_name = name_of(spec)
+        opened = re.search(r"(?m)^unfolding (.*)$", spec)
+        self.opened = opened.group(1).split() if opened else []
+        head = "lts.spec" if self.cycle else "tie.spec"
+        inside = spec[spec.index(head) + len(head) :].rstrip()
+        depth = 0
+        for i, ch in enumerate(inside):
+            depth += ch in "([{"
+            depth -= ch in ")]}"
+            if depth < 0:
+                inside = inside[:i]
+                break
+        args = arguments(inside)
+        if self.cycle:
+            args = args[3:]
+        loops, needs = self.names["loops"], self.names["needs"]
+        extra = len(args) - len(needs)
+        if extra < 0 or (loops and extra not in (len(loops), 2 * len(loops))) or (not loops and extra):
+            raise Cant(f"{len(args)} arguments for {len(loops)} loops and {len(needs)} goals")
+        self.loop_args, self.need_args = args[:extra], args[extra:]
+
+    # -- one declaration taken apart
+
+    def part(self, arg):
+        """Of an argument of tie.spec: the parameters, the body, what it opens, its comment, the name that it had."""
+        m = re.match(r"\(λ ([^.]*)\.\s*(.*)\)$", arg, re.S)
+        if m:
+            return m.group(1).split(), m.group(2), self.opened, [], None
+        if arg.startswith("("):
+            raise Cant("an argument that is no λ: " + arg[:60])
+        if arg not in self.decl:
+            raise Cant("no declaration of " + arg)
+        b = self.decl[arg]
+        lines = b.split("\n")
+        at = 1
+        while at < len(lines) and not re.match(re.escape(arg) + r"\b", lines[at]) and not lines[at].startswith("unfolding"):
+            at += 1
+        opened = []
+        if at < len(lines) and lines[at].startswith("unfolding"):
+            opened = lines[at].split()[1:]
+            at += 1
+        if at >= len(lines):
+            # abbrev on one line
+            raise Cant("no body of " + arg)
+        m = re.match(re.escape(arg) + r"((?:\s+(?!=)" + ID + r")*?)\s+=\s+(.*)$", "\n".join(lines[at:]), re.S)
+        if not m:
+            raise Cant("the body of " + arg)
+        return m.group(1).split(), m.group(2), opened, self.notes.get(arg, []), arg
+
+    # -- translation of a body
+
+    def up(self, place, how):
+        for _ in range(how):
+            parent = self.places[place][1]
+            if parent is None:
+                return None
+            place = self.index[parent]
+        return place
+
+    def step(self, place, fields):
+        """A field of a place: its text behind `c`, in the new names."""
+        first, rest = fields[0], fields[1:]
+        mine = self.places[place]
+        old, new = mine[2] if mine[2] else ("", "")
+        plain = lambda s: s.replace("-", "").replace("_", "")
+        # The binding of an arm.
+        for arm in [self.arms[place]] + [a for i, a in enumerate(self.arms) if a and self.above(place, i)]:
+            if not arm or plain(old) != plain(first):
+                continue
+            for label, step, way in arm[2]:
+                if plain(step) == plain(first) and way and rest[: len(way)] == way:
+                    return ".".join(["", arm[0], label] + rest[len(way) :])
+        if plain(first) == plain(old):
+            return ".".join(["", new] + rest)
+        if place == 0 and first == "pre":
+            return ".".join(["", "requires"] + rest)
+        return ".".join(["", first] + rest)
+
+    def above(self, place, other):
+        """Whether the place stands on the way to the other."""
+        while other is not None:
+            if other == place:
+                return True
+            parent = self.places[other][1]
+            other = self.index[parent] if parent is not None else None
+        return False
+
+    def translate(self, text, env):
+        """Turns what the text says of places; env has the place of each name for one."""
+        env = dict(env)
+        out, at = [], 0
+        token = re.compile(r"\blet\s+(" + ID + r")\s*=\s*|(?<![\w.'«-])(" + ID + r")((?:\.(?:«[^»]*»|[\w'-]+))*)")
+        while at < len(text):
+            m = token.search(text, at)
+            if not m:
+                out.append(text[at:])
+                break
+            out.append(text[at : m.start()])
+            if m.group(1):
+                got = self.place_expression(text, m.end(), env)
+                if got:
+                    place, end = got
+                    close = re.match(r"\s*in\b\s*", text[end:])
+                    if close:
+                        env[m.group(1)] = place
+                        at = end + close.end()
+                        continue
+                env.pop(m.group(1), None)
+                out.append(m.group(0))
+                at = m.end()
+                continue
+            got = self.chain(text, m.start(), env)
+            if got:
+                said, end = got
+                out.append(said)
+                at = end
+            else:
+                out.append(m.group(0))
+                at = m.end()
+        return "".join(out)
+
+    def place_expression(self, text, at, env):
+        """A place that stands at the text's place: NAME.before.., HELPER PLACE, or either in parentheses. Gives the place, and where it ends."""
+        m = re.match(r"\(", text[at:])
+        if m:
+            got = self.place_expression(text, at + 1, env)
+            if not got:
+                return None
+            place, end = got
+            if text[end : end + 1] != ")":
+                return None
+            return self.more_before(place, text, end + 1)
+        m = re.match(ID, text[at:])
+        if not m:
+            return None
+        name = m.group(0)
+        if name in self.helpers:
+            space = re.match(r"\s+", text[at + m.end() :])
+            if not space:
+                return None
+            got = self.place_expression(text, at + m.end() + space.end(), env)
+            if not got:
+                return None
+            _, end = got
+            return self.more_before(self.helpers[name], text, end)
+        if name in env:
+            return self.more_before(env[name], text, at + m.end())
+        return None
+
+    def more_before(self, place, text, at):
+        while re.match(r"\.before(?![\w'-])", text[at:]):
+            place = self.up(place, 1)
+            if place is None:
+                return None
+            at += len(".before")
+        if re.match(r"\.[\w«]", text[at:]):
+            return None if False else (place, at)
+        return place, at
+
+    def chain(self, text, at, env):
+        got = self.place_expression(text, at, env)
+        if not got:
+            return None
+        place, end = got
+        m = re.match(r"(?:\.(?:«[^»]*»|[\w'-]+))+", text[end:])
+        if not m:
+            return "c", end
+        fields = [f for f in re.findall(r"«[^»]*»|[\w'-]+", m.group(0))]
+        return "c" + self.step(place, fields), end + m.end()
+
+    # -- the two files
+
+    def find_helpers(self):
+        for name, b in list(self.decl.items()):
+            m = re.match(r"(?:abbrev )?(?:pub )?" + re.escape(name) + r" : tie\.([\w-]+) → tie\.([\w-]+)\s*$", b.split("\n")[0])
+            if m:
+                self.helpers[name] = self.place_named(m.group(2))
+
+    def place_named(self, word):
+        plain = lambda s: s.replace("-", "").replace("_", "").lower()
+        for i, p in enumerate(self.places):
+            if p[0] == word:
+                return i
+        for i, p in enumerate(self.places):
+            if plain(p[0]) == plain(word):
+                return i
+        raise Cant("no place " + word)
+
+    def write(self):
+        self.find_helpers()
+        folder = f"{ROOT}/crates/{self.crate}/proofs/{self.path}"
+        dotted = self.path.replace("/", ".")
+        used = {self.spec_name} | set(self.helpers)
+        answers, invariants = [], []
+        loops = self.names["loops"]
+        measured = len(self.loop_args) == 2 * len(loops)
+        for i, arg in enumerate(self.loop_args):
+            loop = loops[i % len(loops)] if not measured else loops[i // 2] if self.pairs() else loops[i % len(loops)]
+            is_invariant = (i % 2 == 0) if self.pairs() else i < len(loops)
+            params, body, opened, note, name = self.part(arg)
+            used.add(name)
+            word = "invariant" if is_invariant else "decreases"
+            invariants.append(self.loop(word, loop, params, body, note))
+        kept = []
+        for (old, new), arg, asked in zip(self.names["needs"], self.need_args, self.names["asked_at"]):
+            params, body, opened, note, name = self.part(arg)
+            used.add(name)
+            if re.fullmatch(r"\s*search rules\s*", body) and not (opened and new.startswith("returns")):
+                continue
+            place = self.index[asked[0]]
+            env = {params[0]: place} if params else {}
+            said = self.translate(body, env)
+            kept.append((new, opened, said, note))
+        # What else the file declares, and the answers use.
+        for name, b in self.decl.items():
+            if name not in used:
+                answers.append("\n".join(self.notes.get(name, [])[-3:] + [self.helper(b)]))
+        for new, opened, said, note in kept:
+            lines = list(note[-3:]) + [f"pub {new} : goal.{new}"]
+            if opened:
+                lines.append("unfolding " + " ".join(opened))
+            new = f"{new} t" if self.cycle else new
+            lines.append(f"{new} c = {said}" if "\n" not in said else f"{new} c =\n    {said.strip()}")
+            answers.append("\n".join(lines))
+        uses = [u for u in self.uses if not re.search(r"\.(Statement|Tie)\b", u)]
+        if self.cycle:
+            uses = [u for u in uses if not re.search(r"borrow\.Fn\.|\.(Reads|Kinds|Lts-\w+|\{statement\}|Tie\.\{close\}) ?(as|$)|\.\{statement\}", u)]
+            answers = [a for a in answers if not re.search(r"(?m)^(abbrev |pub )*(μ|at-t|below)\b", a)]
+            function = self.path.split("/")[-1][1:]
+            way = re.search(r"(?m)^μ κs a = a((?:\.1)*)\.0", self.text)
+            measured = next(v for k, v in self.names["params"].items() if k.split("::")[-1] == function)[way.group(1).count("1")]
+            invariants.append(f"abbrev pub decreases-{function} : goal.decreases-{function}\ndecreases-{function} l = l.{measured}")
+        made = []
+        if invariants:
+            text = self.head + "\n".join(uses) + f"\nuse Rattle.{self.crate}.proofs.{dotted}.Given as goal\n\n" + "\n\n".join(invariants) + "\n"
+            made.append(("Invariants.antt", text))
+        if answers:
+            text = self.head + "\n".join(uses) + f"\nuse Rattle.{self.crate}.proofs.{dotted}.Goals as goal\n\n" + "\n\n".join(answers) + "\n"
+            made.append(("Answers.antt", text))
+        os.remove(f"{folder}/Proof.antt")
+        for name, text in made:
+            with open(f"{folder}/{name}", "w", encoding="utf-8") as f:
+                f.write(text)
+        return [n for n, _ in made]
+
+    def helper(self, b):
+        """A lemma of the file whose argument is a place: in the new form it takes the record of that place under its new name."""
+
+        def one(m):
+            i = self.place_named(m.group(1))
+            return "goal." + self.names["places_by_name"][i] if i < len(self.names["places_by_name"]) else "goal." + self.places[i][0]
+
+        m = re.search(r"\((\w+) : tie\.([\w-]+)\)", b)
+        env = {m.group(1): self.place_named(m.group(2))} if m else {}
+        out = self.translate(b, env) if env else b
+        return re.sub(r"tie\.((?:Start|Then|Else|After|In|At)[\w-]*)", one, out)
+
+    def pairs(self):
+        """Whether invariants and measures stand by turns."""
+        return len(self.loop_args) == 2 * len(self.names["loops"]) and len(self.loop_args) > 2 and "decreases" in self.loop_args[1]
+
+    def loop(self, word, loop, params, body, note):
+        (old, new), variables = loop
+        changed = self.names["changed"][self.names["loops"].index(loop)] if self.names["changed"] else [False] * len(variables)
+        names = []
+        for v, c in zip(variables, changed):
+            names.append(f"l.initial.{v}" if c else f"l.{v}")
+        names += [f"l.{v}" for v, c in zip(variables, changed) if c]
+        if len(params) != len(names):
+            raise Cant(f"the loop {old} has {len(params)} parameters, not {len(names)}")
+        for p, n in zip(params, names):
+            body = re.sub(r"(?<![\w.'«-])" + re.escape(p) + r"(?![\w'₀₁₂-])", n, body)
+        lines = list(note[-3:]) + [f"abbrev pub {word}-{new} : goal.{word}-{new}"]
+        lines.append(f"{word}-{new} l = {body}" if "\n" not in body else f"{word}-{new} l =\n    {body.strip()}")
+        return "\n".join(lines)
+
+
+def main():
+    crate, only = sys.argv[1], sys.argv[2:]
+    names = generated(crate)
+    top = f"{ROOT}/crates/{crate}/proofs"
+    for folder, _, files in sorted(os.walk(top)):
+        if "Proof.antt" not in files:
+            continue
+        path = os.path.relpath(folder, top)
+        if only and path not in only and path.split("/")[-1] not in only:
+            continue
+        key = f"Rattle-{crate}-proofs." + path.replace("/", ".") + ".Lts"
+        if path.split("/")[-1].startswith("+"):
+            key += "-" + path.split("/")[-1][1:]
+        with open(f"{folder}/Proof.antt", encoding="utf-8") as f:
+            text = f.read()
+        try:
+            if key not in names:
+                raise Cant("names.json says nothing of it")
+            made = Frame(crate, path, names[key], text).write()
+            print(f"{path}: {', '.join(made) or 'no file'}")
+            if not made:
+                os.rmdir(folder)
+        except Cant as e:
+            print(f"left: {path}: {e}")
+
+
+if __name__ == "__main__":
+    main()
