@@ -29,4 +29,4 @@ pub returns-in-7 : goal.returns-in-7
 returns-in-7 c = rw c.in-7.is
 
 pub returns-in-8-to-255 : goal.returns-in-8-to-255
-returns-in-8-to-255 c = no_row c.args.code Reserved broadcast_states c.in-8-to-255.rest
+returns-in-8-to-255 c = no_row c.args.code Reserved broadcast_states c.in-8-to-255.in-8-to-255-own.rest

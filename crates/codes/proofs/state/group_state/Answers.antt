@@ -41,4 +41,4 @@ pub returns-in-11 : goal.returns-in-11
 returns-in-11 c = rw c.in-11.is
 
 pub returns-in-12-to-255 : goal.returns-in-12-to-255
-returns-in-12-to-255 c = no_row c.args.code Reserved group_states c.in-12-to-255.rest
+returns-in-12-to-255 c = no_row c.args.code Reserved group_states c.in-12-to-255.in-12-to-255-own.rest
