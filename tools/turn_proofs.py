@@ -183,7 +183,7 @@ class Frame:
         first, rest = fields[0], fields[1:]
         mine = self.places[place]
         old, new = mine[2] if mine[2] else ("", "")
-        plain = lambda s: s.replace("-", "").replace("_", "")
+        plain = lambda s: s.replace("-", "").replace("_", "").lower()
         # The binding of an arm.
         for arm in [self.arms[place]] + [a for i, a in enumerate(self.arms) if a and self.above(place, i)]:
             if not arm or plain(old) != plain(first):
@@ -238,7 +238,8 @@ class Frame:
             else:
                 out.append(m.group(0))
                 at = m.end()
-        return "".join(out)
+        # The test of a negation says now that what is negated is false, or true.
+        return re.sub(r"not-(?:true|false) _ (c\.if-not-[\w-]+\.(?:true|false))", r"\1", "".join(out))
 
     def place_expression(self, text, at, env):
         """A place that stands at the text's place: NAME.before.., HELPER PLACE, or either in parentheses. Gives the place, and where it ends."""
@@ -279,6 +280,13 @@ class Frame:
         return place, at
 
     def chain(self, text, at, env):
+        m = re.match(ID, text[at:])
+        if m and m.group(0) in self.lemmas:
+            space = re.match(r"\s+", text[at + m.end() :])
+            got = space and self.place_expression(text, at + m.end() + space.end(), env)
+            if got:
+                self.needed(m.group(0))
+                return m.group(0), got[1]
         got = self.place_expression(text, at, env)
         if not got:
             return None
@@ -288,6 +296,24 @@ class Frame:
             return "c", end
         fields = [f for f in re.findall(r"«[^»]*»|[\w'-]+", m.group(0))]
         return "c" + self.step(place, fields), end + m.end()
+
+    def needed(self, name):
+        """A lemma of the file that speaks of a place: it becomes a `let` of each answer that uses it, since in the new form each goal has a record of its own."""
+        if name in self.lets:
+            return
+        param, place, said, body, opened = self.lemmas[name]
+        said, body = self.translate(said, {param: place}), self.translate(body, {param: place})
+        self.lets[name] = f"let {name} : {said.strip()} =\n    {body.strip()} in"
+        self.let_opened += [o for o in opened if o not in self.let_opened]
+
+    def find_lemmas(self):
+        self.lemmas = {}
+        for name, b in list(self.decl.items()):
+            m = re.match(r"(?:abbrev )?(?:pub )?" + re.escape(name) + r" : \((\w+) : tie\.([\w-]+)\) → (.*?)\n(?:unfolding ([^\n]*)\n)?" + re.escape(name) + r" (\w+) =\s+(.*)$", b, re.S)
+            if m:
+                self.lemmas[name] = (m.group(1), self.place_named(m.group(2)), m.group(3), m.group(6), (m.group(4) or "").split())
+                if m.group(5) != m.group(1):
+                    raise Cant("the parameter of " + name)
 
     # -- the two files
 
@@ -309,9 +335,10 @@ class Frame:
 
     def write(self):
         self.find_helpers()
+        self.find_lemmas()
         folder = f"{ROOT}/crates/{self.crate}/proofs/{self.path}"
         dotted = self.path.replace("/", ".")
-        used = {self.spec_name} | set(self.helpers)
+        used = {self.spec_name} | set(self.helpers) | set(self.lemmas)
         answers, invariants = [], []
         loops = self.names["loops"]
         measured = len(self.loop_args) == 2 * len(loops)
@@ -330,7 +357,11 @@ class Frame:
                 continue
             place = self.index[asked[0]]
             env = {params[0]: place} if params else {}
+            self.lets, self.let_opened = {}, []
             said = self.translate(body, env)
+            if self.lets:
+                said = "\n    ".join(self.lets.values()) + "\n    " + said.strip()
+                opened = opened + [o for o in self.let_opened if o not in opened]
             kept.append((new, opened, said, note))
         # What else the file declares, and the answers use.
         for name, b in self.decl.items():
