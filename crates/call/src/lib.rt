@@ -15,7 +15,7 @@ use octets::Reference;
 use transitions::Send;
 
 // The events of document 01, in the order of their numbers 1 to 18; 19, which the third step table has; and 32 to 36, which a group call has.
-#[derive(Drop)]
+#[derive(Clone, Copy)]
 pub enum Event {
     SetUp(u8, Reference),
     ImmediateSetUp(u8, Reference),
@@ -47,7 +47,7 @@ pub enum Event {
 
 // An event taken apart: its number, the type of its message, and what it carries: a transaction value, a reference, state attributes (of CONNECT its originator, which
 // is their bit of ORIG). What it does not carry is 0.
-#[derive(Drop)]
+#[derive(Clone, Copy)]
 pub struct Seen {
     pub number: u8,
     pub code: u8,
@@ -57,7 +57,7 @@ pub struct Seen {
 }
 
 // Why a message is ignored, in the order of the numbers 1 to 6.
-#[derive(Drop)]
+#[derive(Clone, Copy)]
 pub enum Reason {
     NoCall,
     TooShort,
@@ -69,7 +69,7 @@ pub enum Reason {
 
 // What is due, settled: what a step comes to before its reply is octets. The answer is document 01's number; the reason is the number of why a message is
 // ignored, and 0 with every other answer.
-#[derive(Drop)]
+#[derive(Clone, Copy)]
 pub struct Settled {
     pub answer: u8,
     pub reason: u8,
@@ -80,7 +80,7 @@ pub struct Settled {
 }
 
 // What the step itself sends.
-#[derive(Drop)]
+#[derive(Clone, Copy)]
 pub enum Sending {
     // What its row sends.
     OfRow(Send),
@@ -91,7 +91,7 @@ pub enum Sending {
 }
 
 // What was pending in a group call and is sent now, behind what the step itself sends: a STATUS that tells this state and these parameters, then a TERMINATION REQUEST.
-#[derive(Drop)]
+#[derive(Clone, Copy)]
 pub struct Sent {
     pub status: bool,
     pub request: bool,
@@ -100,7 +100,7 @@ pub struct Sent {
 }
 
 // What is due where something happens: the step of an event, or what befalls a message or a number that comes to no step.
-#[derive(Drop)]
+#[derive(Clone, Copy)]
 pub enum Due {
     Steps(Event),
     Ignored(Reason),

@@ -6,7 +6,7 @@ ghost use Rattle.causes.specs.Causes.{cause_of, cause_said, retry_or_unspecific}
 
 use codes::cause;
 
-#[derive(Drop)]
+#[derive(Clone, Copy)]
 pub enum Cause {
     IllegalMs,
     ImeiNotAccepted,

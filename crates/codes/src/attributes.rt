@@ -3,7 +3,7 @@ ghost use Rattle.std.specs.Prelude.{◌≡◌, ◌+◌};
 ghost use Rattle.codes.specs.Attributes.{parameters_of, attributes_of, parameters_number, weighs};
 
 // The parameters, in the order of document 01: ORIG, COMM, D-ATT, U-ATT.
-#[derive(Drop)]
+#[derive(Clone, Copy)]
 pub struct Parameters {
     pub orig: bool,
     pub comm: bool,

@@ -3,7 +3,7 @@ ghost use Rattle.std.specs.Prelude.{◌≡◌};
 ghost use Rattle.codes.specs.Protocol.{discriminator};
 
 // Broadcast call control, GSM 04.69, and group call control, 24.068.
-#[derive(Drop)]
+#[derive(Clone, Copy)]
 pub enum Protocol {
     Broadcast,
     Group,

@@ -13,7 +13,7 @@ use codes::state::State;
 use octets::Reference;
 use timer::Timers;
 
-#[derive(Drop)]
+#[derive(Clone, Copy)]
 pub struct Context {
     pub state: State,
     pub parameters: Parameters,
@@ -25,7 +25,7 @@ pub struct Context {
 }
 
 // Where a termination was asked from: nothing is remembered, or one of the states that it can be asked from.
-#[derive(Drop)]
+#[derive(Clone, Copy)]
 pub enum Remembered {
     Nothing,
     U1,
@@ -37,7 +37,7 @@ pub enum Remembered {
 }
 
 // Which side chose the transaction value.
-#[derive(Drop)]
+#[derive(Clone, Copy)]
 pub enum Chooser {
     Neither,
     Us,
@@ -46,7 +46,7 @@ pub enum Chooser {
 
 // What only a group call keeps: which side chose the transaction value, whether a termination request and a STATUS wait for COMM, and whether the value of the next
 // message is awaited. In a broadcast call it is neither, and false.
-#[derive(Drop)]
+#[derive(Clone, Copy)]
 pub struct Talk {
     pub chooser: Chooser,
     pub termination: bool,

@@ -11,14 +11,14 @@ use octets::Reference;
 use timer::Timers;
 
 // What sixteen octets are.
-#[derive(Drop)]
+#[derive(Clone, Copy)]
 pub enum Reading {
     Is(Context),
     NoContext,
 }
 
 // The state of a number.
-#[derive(Drop)]
+#[derive(Clone, Copy)]
 pub enum Numbered {
     Is(State),
     NoState,

@@ -7,7 +7,7 @@ use codes::wide::answer;
 use septets::Number;
 
 #[repr(C)]
-#[derive(Drop)]
+#[derive(Clone, Copy)]
 pub struct NumberRead {
     pub answer: u32,
     pub value: u32,

@@ -8,21 +8,21 @@ ghost use Rattle.element.specs.Counted.{counted_at};
 use octets::Run;
 
 // Where an element stands, and its identifier.
-#[derive(Drop)]
+#[derive(Clone, Copy)]
 pub enum Found {
     At(usize, u8),
     Nothing,
 }
 
 // Where the element behind another starts.
-#[derive(Drop)]
+#[derive(Clone, Copy)]
 pub enum Next {
     At(usize),
     PastEnd,
 }
 
 // What a length octet and the octets that it counts come to.
-#[derive(Drop)]
+#[derive(Clone, Copy)]
 pub enum Counted {
     Octets(Run),
     CutShort,

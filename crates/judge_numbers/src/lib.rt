@@ -14,7 +14,7 @@ use timer::Window;
 use verdict::{Invitation, Judged};
 
 #[repr(C)]
-#[derive(Drop)]
+#[derive(Clone, Copy)]
 pub struct Judgement {
     pub answer: u32,
     pub entry: usize,

@@ -8,7 +8,7 @@ use timer::{Timer, Window};
 
 // The time, when the timer that runs was started, and the joining timers and the invitation timers that explain the entries so far: any of the ones with any of
 // the others. In milliseconds.
-#[derive(Drop)]
+#[derive(Clone, Copy)]
 pub struct Clock {
     pub time: u64,
     pub started: u64,
@@ -18,7 +18,7 @@ pub struct Clock {
 
 // What an entry makes of a clock: the clock behind it; that it breaks the rule of a timer whose length is known; that it leaves no joining timer, or no
 // invitation timer; or that no log of at most 65,536 bytes has such a clock.
-#[derive(Drop)]
+#[derive(Clone, Copy)]
 pub enum Ticked {
     Onward(Clock),
     OutOfTime,

@@ -12,7 +12,7 @@ use message::Own;
 use octets::Run;
 
 #[repr(C)]
-#[derive(Drop)]
+#[derive(Clone, Copy)]
 pub struct Mending {
     pub answer: u32,
     pub kept: usize,

@@ -10,7 +10,7 @@ use codes::protocol::{Protocol, discriminator};
 use octets::{Reference, Run};
 
 // The three octets of a mobile station classmark 2.
-#[derive(Drop)]
+#[derive(Clone, Copy)]
 pub struct Classmark {
     pub first: u8,
     pub second: u8,
@@ -18,28 +18,28 @@ pub struct Classmark {
 }
 
 // What the mobile station says of itself beside its identity: ciphering key number and classmark.
-#[derive(Drop)]
+#[derive(Clone, Copy)]
 pub struct Own {
     pub key: u8,
     pub classmark: Classmark,
 }
 
 // An optional mobile identity.
-#[derive(Drop)]
+#[derive(Clone, Copy)]
 pub enum Identity {
     Absent,
     Present(Run),
 }
 
 // An optional element that is a half octet behind its identifier.
-#[derive(Drop)]
+#[derive(Clone, Copy)]
 pub enum Half {
     Absent,
     Present(u8),
 }
 
 // The messages, in the order of clause 8.
-#[derive(Drop)]
+#[derive(Clone, Copy)]
 pub enum Message {
     Connect {
         reference: Reference,
@@ -77,7 +77,7 @@ pub enum Message {
 }
 
 // Why a message can't be read; the number that document 01 gives each is `fault_number`.
-#[derive(Drop)]
+#[derive(Clone, Copy)]
 pub enum Fault {
     // Under 2 octets.
     TooShort,
@@ -94,14 +94,14 @@ pub enum Fault {
 }
 
 // What stands behind the first two octets.
-#[derive(Drop)]
+#[derive(Clone, Copy)]
 pub enum Body {
     Is(Message),
     Wrong(Fault),
 }
 
 // What reading comes to.
-#[derive(Drop)]
+#[derive(Clone, Copy)]
 pub enum Reading {
     Is {
         flag: bool,

@@ -24,7 +24,7 @@ use writing::Wrote;
 
 // Octets side by side, as C has them in an array.
 #[repr(C)]
-#[derive(Drop)]
+#[derive(Clone, Copy)]
 pub struct Three {
     pub first: u8,
     pub second: u8,
@@ -32,7 +32,7 @@ pub struct Three {
 }
 
 #[repr(C)]
-#[derive(Drop)]
+#[derive(Clone, Copy)]
 pub struct Four {
     pub first: u8,
     pub second: u8,
@@ -42,7 +42,7 @@ pub struct Four {
 
 // A half octet that may be absent: 1 and its value, or 0.
 #[repr(C)]
-#[derive(Drop)]
+#[derive(Clone, Copy)]
 pub struct Optional {
     pub there: u8,
     pub value: u8,
@@ -50,7 +50,7 @@ pub struct Optional {
 
 // Where a run of octets lies: the place of the first, and how many.
 #[repr(C)]
-#[derive(Drop)]
+#[derive(Clone, Copy)]
 pub struct Place {
     pub start: usize,
     pub count: usize,
@@ -58,7 +58,7 @@ pub struct Place {
 
 // A message of any kind. What the kind does not carry is zero when read and has no effect when written.
 #[repr(C)]
-#[derive(Drop)]
+#[derive(Clone, Copy)]
 pub struct Numbers {
     // The message type of table 9.1, with bit 7 zero.
     pub kind: u8,
@@ -78,7 +78,7 @@ pub struct Numbers {
 
 // What reading comes to: the answer, the fault of answer 13, and the message, which is all zero where it is refused.
 #[repr(C)]
-#[derive(Drop)]
+#[derive(Clone, Copy)]
 pub struct NumbersRead {
     pub answer: u32,
     pub fault: u32,
@@ -87,14 +87,14 @@ pub struct NumbersRead {
 
 // What writing comes to: the answer, and how many octets were written.
 #[repr(C)]
-#[derive(Drop)]
+#[derive(Clone, Copy)]
 pub struct NumbersWritten {
     pub answer: u32,
     pub length: usize,
 }
 
 // What numbers mean, apart from flag and transaction value.
-#[derive(Drop)]
+#[derive(Clone, Copy)]
 pub enum Meant {
     Is(Message),
     Nothing,

@@ -7,14 +7,14 @@ ghost use Rattle.octets.specs.Little.{little};
 ghost use Rattle.octets.specs.Run.{part};
 
 // Octets of a lent slice: the place of the first, and how many.
-#[derive(Drop)]
+#[derive(Clone, Copy)]
 pub struct Run {
     pub start: usize,
     pub count: usize,
 }
 
 // The four octets of a call reference, 9.4.1. They are carried as they came and never taken apart.
-#[derive(Drop)]
+#[derive(Clone, Copy)]
 pub struct Reference {
     pub first: u8,
     pub second: u8,

@@ -16,7 +16,7 @@ use octets::Reference;
 use version::Table;
 
 // An event: its number, and the data that an event may carry. What it does not carry has no effect.
-#[derive(Drop)]
+#[derive(Clone, Copy)]
 pub struct Happened {
     pub number: u32,
     pub value: u8,
@@ -26,7 +26,7 @@ pub struct Happened {
 
 // What a step answers: document 01's number, why a message was ignored (0 where none was), the actions, and how many octets of the reply buffer are
 // the reply.
-#[derive(Drop)]
+#[derive(Clone, Copy)]
 pub struct Outcome {
     pub answer: u8,
     pub reason: u8,
@@ -35,14 +35,14 @@ pub struct Outcome {
 }
 
 // The context after the step, and what the step answers.
-#[derive(Drop)]
+#[derive(Clone, Copy)]
 pub struct Stepped {
     pub context: Context,
     pub outcome: Outcome,
 }
 
 // The event of a number.
-#[derive(Drop)]
+#[derive(Clone, Copy)]
 pub enum Told {
     Is(Event),
     NoEvent,

@@ -96,7 +96,7 @@ fn is_same(octets: &[u8], run: Run, identity: &[u8]) -> bool
 }
 
 // What rules 4 and 5 ask of a message: the mobile identity that it has, and whether it is a CONNECT that doesn't name us as originator.
-#[derive(Drop)]
+#[derive(Clone, Copy)]
 struct Asked {
     identity: Identity,
     disowns: bool,

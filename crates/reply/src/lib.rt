@@ -35,7 +35,7 @@ fn written_count(wrote: Wrote) -> usize
 
 // What a message has of the context that it is sent in: the transaction's flag and value, and what a STATUS tells.
 // It has few octets. A context that was handed to a function of two callers would stand in memory at every step, also where nothing is sent.
-#[derive(Drop)]
+#[derive(Clone, Copy)]
 struct Sender {
     flag: bool,
     value: u8,

@@ -10,7 +10,7 @@ use settings_line::{Fault, Seen};
 use settings_values::Settings;
 
 // Answer 0 and the settings, line 0 and `Fine`; or answer 12, the number of the line, why, and settings that are all zero.
-#[derive(Drop)]
+#[derive(Clone, Copy)]
 pub struct ReadSettings {
     pub answer: u8,
     pub line: usize,

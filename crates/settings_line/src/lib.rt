@@ -8,7 +8,7 @@ use settings_values::Settings;
 
 // Why a file is refused, for the words that a person reads: the line has no LF, no name that is known, a value that its
 // name does not take, or a name that stood before; or the file has no line of a name, the first such in document 01's order.
-#[derive(Drop)]
+#[derive(Clone, Copy)]
 pub enum Fault {
     Fine,
     NoLineFeed,
@@ -27,7 +27,7 @@ pub enum Fault {
 }
 
 // Which names the lines so far had, and what they set.
-#[derive(Drop)]
+#[derive(Clone, Copy)]
 pub struct Seen {
     pub key: bool,
     pub classmark: bool,
@@ -49,7 +49,7 @@ impl Seen {
 }
 
 // What is seen after one more line; or why that line is refused.
-#[derive(Drop)]
+#[derive(Clone, Copy)]
 pub struct Turn {
     pub taken: bool,
     pub fault: Fault,

@@ -9,7 +9,7 @@ use codes::{answer, wide};
 use settings_line::Fault;
 
 #[repr(C)]
-#[derive(Drop)]
+#[derive(Clone, Copy)]
 pub struct SettingsRead {
     pub answer: u32,
     pub fault: u32,

@@ -8,7 +8,7 @@ ghost use Rattle.settings_values.specs.Values.{classmark_read, decimal_of, hex_o
 use timer::Timers;
 
 // Ciphering key number, classmark, own identity (its first `count` octets, then zeros), and the joining and the invitation timer in milliseconds.
-#[derive(Drop)]
+#[derive(Clone, Copy)]
 pub struct Settings {
     pub key: u8,
     pub classmark: [u8; 3],
@@ -31,26 +31,26 @@ impl Settings {
 }
 
 // What a text is as a value of each kind; where it is none, `good` is false and all else zero.
-#[derive(Drop)]
+#[derive(Clone, Copy)]
 pub struct KeyRead {
     pub good: bool,
     pub number: u8,
 }
 
-#[derive(Drop)]
+#[derive(Clone, Copy)]
 pub struct ClassmarkRead {
     pub good: bool,
     pub octets: [u8; 3],
 }
 
-#[derive(Drop)]
+#[derive(Clone, Copy)]
 pub struct IdentityRead {
     pub good: bool,
     pub octets: [u8; 8],
     pub count: usize,
 }
 
-#[derive(Drop)]
+#[derive(Clone, Copy)]
 pub struct MillisecondsRead {
     pub good: bool,
     pub milliseconds: u32,
@@ -86,7 +86,7 @@ impl MillisecondsRead {
 }
 
 // Octets that hex digits write, and zeros up to eight; `good` is false where one of the digits is none.
-#[derive(Drop)]
+#[derive(Clone, Copy)]
 struct Hex {
     good: bool,
     octets: [u8; 8],

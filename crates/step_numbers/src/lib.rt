@@ -19,7 +19,7 @@ use version::Table;
 
 // An event and its data, in C's numbers; what it does not carry has no effect.
 #[repr(C)]
-#[derive(Drop)]
+#[derive(Clone, Copy)]
 pub struct Occurrence {
     pub number: u32,
     pub value: u8,
@@ -31,7 +31,7 @@ pub struct Occurrence {
 }
 
 #[repr(C)]
-#[derive(Drop)]
+#[derive(Clone, Copy)]
 pub struct Step {
     pub answer: u32,
     pub reason: u32,

@@ -7,7 +7,7 @@ ghost use Rattle.timer.specs.Timers.{timer_number, running_among, expiry_of, len
 use codes::wide::event;
 
 // A timer, or none of them.
-#[derive(Drop)]
+#[derive(Clone, Copy)]
 pub enum Timer {
     NoTimer,
     MmEst,
@@ -18,7 +18,7 @@ pub enum Timer {
 }
 
 // Which timers run: T_MM-est, T_term, T_conn req, T_no channel, T_pres.
-#[derive(Drop)]
+#[derive(Clone, Copy)]
 pub struct Timers {
     pub mmest: bool,
     pub term: bool,
@@ -28,7 +28,7 @@ pub struct Timers {
 }
 
 // Lengths that a timer may have, in milliseconds: from the least to the greatest, both among them.
-#[derive(Drop)]
+#[derive(Clone, Copy)]
 pub struct Window {
     pub least: u64,
     pub greatest: u64,

@@ -5,7 +5,7 @@ use codes::state::State;
 use timer::Timer;
 
 // What a row sends.
-#[derive(Drop)]
+#[derive(Clone, Copy)]
 pub enum Send {
     Nothing,
     ImmediateSetup,
@@ -14,7 +14,7 @@ pub enum Send {
 }
 
 // What is stored of what the event carries.
-#[derive(Drop)]
+#[derive(Clone, Copy)]
 pub enum Stores {
     Nothing,
     ValueAndReference,
@@ -24,7 +24,7 @@ pub enum Stores {
 }
 
 // What becomes of what is remembered: it stays, the state that is left is remembered, or it is forgotten.
-#[derive(Drop)]
+#[derive(Clone, Copy)]
 pub enum Memory {
     Keep,
     Remember,
@@ -32,7 +32,7 @@ pub enum Memory {
 }
 
 // What a row of a group call notes: which side chose the transaction value, that a termination request or a STATUS is pending, or that the request is no longer.
-#[derive(Drop)]
+#[derive(Clone, Copy)]
 pub enum Note {
     Nothing,
     WeChose,
@@ -44,7 +44,7 @@ pub enum Note {
 
 // A row that is taken: next state, actions, what is sent, the timer that is stopped, the timer that is set, what is stored, what is remembered, and what is noted.
 // "Set unless running" sets none where the timer runs. The next state is a state: where a row returns to one that was remembered, whoever decides knows which.
-#[derive(Drop)]
+#[derive(Clone, Copy)]
 pub struct Taken {
     pub next: State,
     pub actions: u8,
@@ -56,7 +56,7 @@ pub struct Taken {
     pub note: Note,
 }
 
-#[derive(Drop)]
+#[derive(Clone, Copy)]
 pub enum Decision {
     // A row.
     Take(Taken),

@@ -11,7 +11,7 @@ use codes::protocol::{Protocol, discriminator};
 use message::Message;
 
 // What writing comes to; the number that document 01 gives each is `written_number`.
-#[derive(Drop)]
+#[derive(Clone, Copy)]
 pub enum Wrote {
     // Written, with so many octets.
     Written(usize),
