@@ -1,7 +1,7 @@
 -- Messages worked out by hand from tables 8.1 to 8.9 and 9.1, and the edges of reading: each is what the definition computes.
 use Prim.Native.Nat.{ℕ}
 use mathlib.Core.Path.{◌≡◌, refl}
-use mathlib.Core.List.{List, [], ◌∷◌}
+use mathlib.Core.List.{[], ◌∷◌}
 use mathlib.Core.Bool.{true, false}
 use lib.ListN.{replicate}
 use Rattle.codes.specs.declared.protocol.Protocol.TheVariants.{Broadcast, Group}
@@ -10,9 +10,8 @@ use Rattle.octets.specs.declared.Run.{Run}
 use Rattle.element.specs.Elements.{within, next_element, element_among, element_from}
 use Rattle.element.specs.Counted.{counted_at}
 use Rattle.octets.specs.declared.Reference.{Reference}
-use Rattle.message.specs.declared.Classmark.{Classmark}
 use Rattle.message.specs.declared.Identity.TheVariants.{Absent as Anonymous, Present as Named}
-use Rattle.message.specs.declared.Half.TheVariants.{Absent, Present}
+use Rattle.message.specs.declared.Half.TheVariants.{Present}
 use Rattle.message.specs.declared.Message.TheVariants.{
   Connect,
   GetStatus,

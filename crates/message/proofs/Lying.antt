@@ -18,7 +18,7 @@ use Rattle.message.specs.declared.Message.{Message}
 use Rattle.message.specs.declared.Message.TheVariants.{GetStatus}
 use Rattle.message.specs.declared.Reading.TheVariants.{Is as Reads}
 use Rattle.message.specs.Content.{lies, runs_lie}
-use Rattle.message.specs.Reading.{four_octets, if_counted, identity_behind, identity_found, read_message}
+use Rattle.message.specs.Reading.{if_counted, identity_behind, identity_found, read_message}
 use Rattle.message.proofs.Each.{RejectLies, Each, of_read}
 
 module _ (s : List ℕ) where

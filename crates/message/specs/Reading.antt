@@ -42,7 +42,6 @@ use Rattle.message.specs.declared.Message.TheVariants.{
   TerminationReject,
   TerminationRequest,
 }
-use Rattle.message.specs.declared.Fault.{Fault}
 use Rattle.message.specs.declared.Fault.TheVariants.{
   TooShort,
   Discriminator,
