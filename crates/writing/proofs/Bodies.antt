@@ -20,28 +20,13 @@ use Rattle.message.specs.declared.Identity.{Identity}
 use Rattle.message.specs.declared.Identity.TheVariants.{Absent as Anonymous, Present as Named}
 use Rattle.message.specs.declared.Message.{Message}
 use Rattle.message.specs.declared.Message.TheVariants.{GetStatus}
-use Rattle.message.specs.Content.{
-  Content,
-  content_of,
-  run_octets,
-  present,
-  connect,
-  get_status,
-  immediate_setup,
-  set_parameter,
-  setup,
-  status,
-  termination,
-  termination_reject,
-  termination_request,
-  reference_octets,
-}
+use Rattle.message.specs.Content.{content_of, run_octets, present, connect, get_status, immediate_setup, set_parameter, setup, status, termination, termination_reject, termination_request, reference_octets}
 use Rattle.message.specs.Tables.{type_of, table}
 use Rattle.writing.specs.declared.Wrote.{Wrote}
 use Rattle.writing.specs.declared.Wrote.TheVariants.{Written, ShortBuffer, OutOfRange}
-use Rattle.limits.specs.Limits.{run_fits, reject_fits, half_fits, half_count, status_fits}
+use Rattle.limits.specs.Limits.{run_fits, reject_fits, half_count, status_fits}
 use Rattle.writing.specs.Bodies.{Writes, body_octets, body_fits, common_octets, common_fits, cause_octets, half_octets}
-use Rattle.limits.proofs.Tests.{Good, good, Fine, fine, half_count_lem}
+use Rattle.limits.proofs.Tests.{good, fine, half_count_lem}
 
 module _ (d xs : List ℕ) (fits : Bool) where
   pub refused : fits ≡ false → Writes d xs fits OutOfRange d

@@ -1,8 +1,8 @@
 -- The code's tests are the table's: a message passes the kinds' tests exactly if it fits its table and its runs lie within the octets.
 use Prim.Native.Nat.{ℕ, suc, ◌+◌, ◌≤◌, ◌<◌}
 use mathlib.Core.Path.{◌≡◌, refl, sym, ap, subst, ◌∙◌}
-use mathlib.Core.List.{List, [], ◌∷◌, ◌++◌, append-nil}
-use mathlib.Core.Bool.{Bool, true, false, cond, ◌&&◌, and-true, and-false}
+use mathlib.Core.List.{List, [], ◌++◌, append-nil}
+use mathlib.Core.Bool.{Bool, true, false, ◌&&◌, and-true, and-false}
 use native.Mathlib.Omega.{arith}
 use lib.ListN.{length, length-append}
 use lib.Dec.{leb, ltb, eqb}
@@ -34,7 +34,7 @@ use Rattle.writing.specs.Writing.{writable, put_answer, put_leaves, write_answer
 use Rattle.limits.specs.Limits.{run_fits, reject_fits, half_fits, half_count, status_fits}
 use Rattle.writing.specs.Bodies.{Writes, body_octets, body_fits, half_octets}
 use Rattle.message.specs.Tables.{head_of}
-use Rattle.limits.proofs.Tests.{and_left, and_right, half_count_lem}
+use Rattle.limits.proofs.Tests.{and_right, half_count_lem}
 
 -- A conjunct that the one before implies says nothing.
 and_implied : (a b : Bool) → (a ≡ true → b ≡ true) → a && b ≡ a

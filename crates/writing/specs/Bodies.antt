@@ -1,7 +1,7 @@
 -- What each kind's writer is held to: the same octets and the same test as in `Writing`, with the first octet given and the tests as the code makes them.
 -- Nobody need believe this file: no public contract and no theorem of the promises goes by it, and `proofs/Fitting` shows that it comes to what `Writing` says. It
 -- stands here because the contracts of private functions cite it, and a contract sees definitions alone.
-use Rattle.std.specs.Prelude.{ℕ, ◌≡◌, List, [], ◌∷◌, Bool, true, cond, ◌&&◌, length, ltb}
+use Rattle.std.specs.Prelude.{ℕ, ◌≡◌, List, ◌∷◌, Bool, true, cond, ◌&&◌, length, ltb}
 use Rattle.std.proofs.lemmas.List.Edits.{sets}
 use Rattle.codes.specs.declared.protocol.Protocol.{Protocol}
 use Rattle.codes.specs.declared.protocol.Protocol.TheVariants.{Broadcast}

@@ -1,0 +1,20 @@
+-- `put_half` meets its contract: absent or there.
+use native.Mathlib.Omega.{arith}
+use Rattle.limits.proofs.Tests.{half_room, half_below}
+use Rattle.writing.proofs.Bodies.{put_none, put_one}
+use Rattle.writing.proofs.kinds.put_half.Goals as goal
+
+pub overflow_add-buffer : goal.overflow_add-buffer
+overflow_add-buffer c = omega (arith, half_below _ _ c.in-Present.is c.requires.2)
+
+pub bounds-buffer-at : goal.bounds-buffer-at
+bounds-buffer-at c = half_room _ _ _ _ c.in-Present.is c.requires.0
+
+pub overflow_add-result : goal.overflow_add-result
+overflow_add-result c = omega (arith, half_room _ _ _ _ c.in-Present.is c.requires.0)
+
+pub returns-in-Absent : goal.returns-in-Absent
+returns-in-Absent c = put_none _ _ _ _ c.in-Absent.is
+
+pub returns-in-Present : goal.returns-in-Present
+returns-in-Present c = put_one _ _ _ _ _ c.in-Present.is
