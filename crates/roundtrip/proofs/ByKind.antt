@@ -1,22 +1,18 @@
 -- What was written of each kind is read as that kind.
-use Prim.Native.Nat.{ℕ, suc, ◌+◌, ◌*◌, ◌/◌, ◌%◌, ◌≤◌, ◌<◌}
-use mathlib.Core.Path.{◌≡◌, refl, sym, ap, subst, ◌∙◌}
-use mathlib.Core.List.{List, [], ◌∷◌, ◌++◌, append-nil}
-use mathlib.Core.Bool.{Bool, true, false}
+use Prim.Native.Nat.{ℕ, ◌+◌, ◌*◌, ◌/◌, ◌%◌, ◌≤◌, ◌<◌}
+use mathlib.Core.Path.{◌≡◌, refl, sym, ap, ◌∙◌}
+use mathlib.Core.List.{List, [], ◌∷◌, ◌++◌}
+use mathlib.Core.Bool.{true, false}
 use native.Mathlib.Nat.{add-zero}
 use native.Mathlib.Omega.{arith}
 use lib.ListN.{length, get_or, length-append}
 use lib.Seq.{get_or-append-add}
-use lib.Dec.{leb}
-use borrow.Author.Tests.{le-leb, lt-leb}
-use Rattle.octets.proofs.Choice.{at_cond}
+use borrow.Author.Tests.{le-leb}
 use Rattle.codes.specs.declared.protocol.Protocol.{Protocol}
 use Rattle.codes.specs.declared.protocol.Protocol.TheVariants.{Broadcast, Group}
 use Rattle.octets.specs.declared.Run.{Run}
-use Rattle.element.specs.declared.Found.{Found}
 use Rattle.element.specs.declared.Found.TheVariants.{At, Nothing}
 use Rattle.element.specs.declared.Next.TheVariants.{At as NextAt}
-use Rattle.element.specs.declared.Counted.{Counted}
 use Rattle.element.specs.declared.Counted.TheVariants.{Octets}
 use Rattle.element.specs.Elements.{within, next_element, element_from}
 use Rattle.element.specs.Counted.{counted_at}
@@ -47,30 +43,10 @@ use Rattle.message.specs.declared.Message.TheVariants.{
   TerminationReject,
   TerminationRequest,
 }
-use Rattle.message.specs.declared.Body.{Body}
 use Rattle.message.specs.declared.Body.TheVariants.{Is}
-use Rattle.message.specs.Content.{reference_octets, classmark_octets}
+use Rattle.message.specs.Content.{reference_octets}
 use Rattle.message.specs.Tables.{counted}
-use Rattle.message.specs.Reading.{
-  reference_at,
-  unless_known,
-  whole_of,
-  on_counted,
-  identity_behind,
-  half_found,
-  half_at,
-  connect_of,
-  get_status_of,
-  immediate_identity_of,
-  immediate_setup_of,
-  set_parameter_of,
-  setup_of,
-  status_of,
-  termination_of,
-  termination_reject_of,
-  termination_request_of,
-  body_of,
-}
+use Rattle.message.specs.Reading.{reference_at, unless_known, whole_of, identity_behind, half_found, half_at, connect_of, get_status_of, immediate_identity_of, immediate_setup_of, set_parameter_of, setup_of, status_of, termination_of, termination_reject_of, termination_request_of, body_of}
 use Rattle.writing.specs.Bodies.{half_octets}
 use Rattle.roundtrip.proofs.Drawn.{HalfDrawn, RejectDrawn}
 

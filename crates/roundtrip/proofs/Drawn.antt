@@ -1,8 +1,8 @@
 -- What a message that fits its table is like, in numbers.
-use Prim.Native.Nat.{ℕ, suc, ◌+◌, ◌≤◌, ◌<◌}
-use mathlib.Core.Path.{◌≡◌, refl, sym, ap, ◌∙◌}
-use mathlib.Core.List.{List, []}
-use mathlib.Core.Bool.{Bool, true, false, ◌&&◌}
+use Prim.Native.Nat.{ℕ, ◌+◌, ◌≤◌, ◌<◌}
+use mathlib.Core.Path.{◌≡◌}
+use mathlib.Core.List.{List}
+use mathlib.Core.Bool.{Bool, true, ◌&&◌}
 use native.Mathlib.Omega.{arith}
 use lib.ListN.{length}
 use lib.Dec.{leb, ltb, eqb}
@@ -26,7 +26,7 @@ use Rattle.message.specs.Content.{
   termination_reject,
   termination_request,
 }
-use Rattle.message.specs.Tables.{format_tv, table, type_of, written, fits, rows_fit, count_fits, element_fits}
+use Rattle.message.specs.Tables.{format_tv, table, written, fits, rows_fit, count_fits, element_fits}
 use Rattle.limits.proofs.Tests.{and_left, and_right}
 
 abbrev pub HalfDrawn : Half → Type 0

@@ -1,6 +1,6 @@
 -- The reader's answer and fault are those of document 01's conditions, in the paper's order.
 use Prim.Native.Nat.{ℕ, ◌+◌, ◌/◌, ◌%◌, ◌≤◌, ◌<◌}
-use mathlib.Core.Path.{◌≡◌, refl, sym, ap, ◌∙◌}
+use mathlib.Core.Path.{◌≡◌, refl, ap, ◌∙◌}
 use mathlib.Core.List.{List, [], ◌∷◌}
 use mathlib.Core.Bool.{Bool, true, false, cond}
 use native.Mathlib.Omega.{arith}
@@ -19,61 +19,13 @@ use Rattle.element.specs.Counted.{counted_at}
 use Rattle.element.proofs.Elements.{within_says}
 use Rattle.message.specs.declared.Message.{Message}
 use Rattle.message.specs.declared.Message.TheVariants.{Status, Termination, TerminationReject}
-use Rattle.message.specs.declared.Fault.{Fault}
 use Rattle.message.specs.declared.Fault.TheVariants.{TooShort, Discriminator, UnknownType, CutShort, WrongLength, MustBeKnown}
 use Rattle.message.specs.declared.Body.{Body}
 use Rattle.message.specs.declared.Body.TheVariants.{Is, Wrong}
 use Rattle.message.specs.declared.Reading.{Reading}
 use Rattle.message.specs.Answers.{fault_number, reading_number}
-use Rattle.message.specs.Reading.{
-  octet,
-  behind,
-  unless_known,
-  whole_of,
-  on_counted,
-  half_at,
-  connect_of,
-  get_status_of,
-  immediate_reference_of,
-  immediate_identity_of,
-  immediate_setup_of,
-  set_parameter_of,
-  setup_of,
-  status_behind,
-  status_of,
-  termination_behind,
-  termination_of,
-  termination_reject_behind,
-  termination_reject_of,
-  termination_request_of,
-  kinds,
-  body_of,
-  read_as,
-  read_message,
-}
-use Rattle.roundtrip.specs.Faults.{
-  Piece,
-  octets,
-  counted,
-  Drawing,
-  none,
-  draws,
-  reject_piece,
-  drawings,
-  is_found,
-  wrong_from,
-  too_long,
-  too_short,
-  ours,
-  is_drawn,
-  drawing,
-  typed,
-  wrong_in,
-  rule_three,
-  number_by,
-  fault_by,
-  fault_read,
-}
+use Rattle.message.specs.Reading.{octet, behind, unless_known, whole_of, on_counted, half_at, connect_of, get_status_of, immediate_reference_of, immediate_identity_of, immediate_setup_of, set_parameter_of, setup_of, status_of, termination_of, termination_reject_of, termination_request_of, kinds, body_of, read_as, read_message}
+use Rattle.roundtrip.specs.Faults.{Piece, octets, counted, Drawing, none, reject_piece, drawings, is_found, wrong_from, too_long, too_short, ours, is_drawn, typed, wrong_in, rule_three, number_by, fault_by, fault_read}
 
 -- The fault of what stands behind the first two octets.
 abbrev fault_in : Body → ℕ

@@ -1,10 +1,10 @@
 -- Demand 2: all nine messages are read and written by clauses 8 and 9, and reading what was written gives the message back.
-use Prim.Native.Nat.{ℕ, suc, ◌+◌, ◌*◌, ◌/◌, ◌%◌, ◌≤◌, ◌<◌}
+use Prim.Native.Nat.{ℕ, ◌+◌, ◌*◌, ◌/◌, ◌%◌, ◌≤◌, ◌<◌}
 use mathlib.Core.Path.{◌≡◌, refl, sym, ap, subst, ◌∙◌}
 use mathlib.Core.List.{List, [], ◌∷◌, ◌++◌, append-nil}
-use mathlib.Core.Bool.{Bool, true, false, cond}
+use mathlib.Core.Bool.{Bool, true, false}
 use native.Mathlib.Omega.{arith}
-use lib.ListN.{length, get_or, take, drop, length-append}
+use lib.ListN.{length, take, drop}
 use lib.Seq.{sets, sets-eq, take-length, take_at, drop_at}
 use lib.Dec.{leb, ltb}
 use borrow.Author.Tests.{le-leb, lt-leb, ltb-false}
@@ -13,7 +13,6 @@ use Rattle.codes.specs.declared.protocol.Protocol.{Protocol}
 use Rattle.codes.specs.declared.protocol.Protocol.TheVariants.{Broadcast, Group}
 use Rattle.codes.specs.Protocol.{discriminator}
 use Rattle.codes.proofs.Protocols.{discriminator-small}
-use Rattle.message.specs.declared.Half.{Half}
 use Rattle.message.specs.declared.Message.{Message}
 use Rattle.message.specs.declared.Message.TheVariants.{
   Connect,
@@ -27,9 +26,7 @@ use Rattle.message.specs.declared.Message.TheVariants.{
   TerminationRequest,
 }
 use Rattle.message.specs.declared.Identity.TheVariants.{Absent as Anonymous, Present as Named}
-use Rattle.message.specs.declared.Body.{Body}
 use Rattle.message.specs.declared.Body.TheVariants.{Is}
-use Rattle.message.specs.declared.Reading.{Reading}
 use Rattle.message.specs.declared.Reading.TheVariants.{Is as Reads}
 use Rattle.message.specs.Content.{
   absent,
@@ -49,10 +46,9 @@ use Rattle.message.specs.Content.{
   termination_request,
 }
 use Rattle.message.specs.Tables.{head_of, type_of, table, counted, written, fits}
-use Rattle.message.specs.Reading.{read_as, body_of, read_message}
+use Rattle.message.specs.Reading.{body_of, read_message}
 use Rattle.message.proofs.Bodies.{head_good}
-use Rattle.writing.specs.declared.Wrote.{Wrote}
-use Rattle.writing.specs.declared.Wrote.TheVariants.{Written, ShortBuffer, OutOfRange}
+use Rattle.writing.specs.declared.Wrote.TheVariants.{Written}
 use Rattle.writing.specs.Writing.{writable, write_answer, write_leaves}
 use Rattle.writing.specs.Bodies.{half_octets}
 use Rattle.limits.proofs.Tests.{and_right}

@@ -1,6 +1,6 @@
 -- Document 01, "Answer numbers", message reading alone, in so many words: "answers 6, else 0 and the message .., else 13 with the first fault: 1 under 2 octets,
 -- 2 discriminator, 3 type, 4 as rule 3". Nothing here goes by what the reader makes of the octets.
-use Rattle.std.specs.Prelude.{ℕ, ◌+◌, ◌%◌, List, [], ◌∷◌, Bool, true, false, cond, ◌&&◌, length, get_or, leb, ltb, eqb}
+use Rattle.std.specs.Prelude.{ℕ, ◌+◌, ◌%◌, List, [], ◌∷◌, Bool, true, false, cond, length, get_or, leb, ltb, eqb}
 use Rattle.octets.specs.Rows.{rows}
 use Rattle.codes.specs.declared.protocol.Protocol.{Protocol}
 use Rattle.codes.specs.declared.protocol.Protocol.TheVariants.{Broadcast, Group}
@@ -19,7 +19,6 @@ use Rattle.codes.specs.MessageTypes.{
 use Rattle.element.specs.declared.Found.{Found}
 use Rattle.element.specs.declared.Found.TheVariants.{At, Nothing}
 use Rattle.element.specs.Elements.{within, element_from}
-use Rattle.message.specs.declared.Fault.{Fault}
 use Rattle.message.specs.declared.Reading.{Reading}
 use Rattle.message.specs.declared.Reading.TheVariants.{Is, Unreadable, TooLong}
 use Rattle.message.specs.Answers.{fault_number}
