@@ -61,6 +61,15 @@ def one(crate, path, number, column, why):
                 lines[number - 1] = line[:i] + "." + m.group(2) + line[i + 1 + len(m.group(1)) :]
                 open(file, "w", encoding="utf-8").write("\n".join(lines))
                 return f".{m.group(1)} -> .{m.group(2)}"
+    m = re.search(r"has no field `(\d+)`\s+(?:— )?(?:the )?fields that can be named here are (.*)$", why, re.S)
+    if m:
+        names = re.findall(r"`([\w-]+)`", m.group(2))
+        if int(m.group(1)) < len(names):
+            for i in range(max(0, column - 4), column + 2):
+                if re.match(r"\." + m.group(1) + r"(?![\w-])", line[i:]):
+                    lines[number - 1] = line[:i] + "." + names[int(m.group(1))] + line[i + 1 + len(m.group(1)) :]
+                    open(file, "w", encoding="utf-8").write("\n".join(lines))
+                    return f".{m.group(1)} -> .{names[int(m.group(1))]}"
     return None
 
 
@@ -86,7 +95,7 @@ def main():
     crate = sys.argv[1]
     for _ in range(int(sys.argv[2]) if len(sys.argv) > 2 else 4):
         said = check(crate)
-        if re.search(r"(?m)^logic=proved", said):
+        if [v for v in re.findall(r"(?m)^logic=(\S+)|^(rt: the library)", said)][-1:] == [("proved", "")]:
             print(f"{crate}: proved")
             return
         changed, later, seen = False, [], set()
@@ -114,7 +123,7 @@ def main():
     for l in said.split("\n"):
         if re.match(r"(fn|struct|enum|impl) .*: (not proved|no proof|could not)", l) or (re.search(r": error: ", l)):
             print(l[:400])
-    print(f"{crate}: " + (re.search(r"(?m)^logic=\S+", said) or re.search(r"(?s).{0,300}$", said)).group(0))
+    print(f"{crate}: " + (re.search(r"(?m)^logic=not\S+", said) or re.search(r"(?s).{0,300}$", said)).group(0))
 
 
 if __name__ == "__main__":

@@ -37,6 +37,79 @@ class Cant(Exception):
     pass
 
 
+def clause_names(crate):
+    """The names of the `ensures` of each function, by the function's last name."""
+    out = {}
+    for folder, _, files in os.walk(f"{ROOT}/crates/{crate}/src"):
+        for f in files:
+            with open(f"{folder}/{f}", encoding="utf-8") as it:
+                for part in re.split(r"(?m)^\s*(?:pub(?:\([^)]*\))? )?(?:unsafe |extern \"C\" )*fn ", it.read())[1:]:
+                    names = re.findall(r"(?m)^\s*ensures (\w+) \{", part)
+                    if len(names) > 1:
+                        out[re.match(r"\w+", part).group(0)] = names
+    return out
+
+
+EVERY = {}
+
+
+def all_clauses():
+    """The names of the `ensures` of each function of this repository, by its path."""
+    if not EVERY:
+        for crate in os.listdir(f"{ROOT}/crates"):
+            for folder, _, files in os.walk(f"{ROOT}/crates/{crate}/src"):
+                for f in files:
+                    inner = os.path.relpath(f"{folder}/{f}", f"{ROOT}/crates/{crate}/src")[: -len(".rt")].replace("/mod", "").split("/")
+                    path = [crate] + [i for i in inner if i not in ("lib", "main")]
+                    with open(f"{folder}/{f}", encoding="utf-8") as it:
+                        for part in re.split(r"(?m)^\s*(?:pub(?:\([^)]*\))? )?(?:unsafe |extern \"C\" )*fn ", it.read())[1:]:
+                            names = re.findall(r"(?m)^\s*ensures (\w+) \{", part)
+                            if len(names) > 1:
+                                EVERY["::".join(path + [re.match(r"\w+", part).group(0)])] = names
+        EVERY[""] = []
+    return EVERY
+
+
+def split_clauses(body, names):
+    """The answers of clauses, from one of their product."""
+    text, lets = body.strip(), ""
+    while True:
+        m = re.match(r"let\s", text)
+        if not m:
+            break
+        depth, at = 0, 0
+        while True:
+            w = re.compile(r"\blet\b|\bin\b").search(text, at)
+            if not w:
+                return None
+            depth += 1 if w.group(0) == "let" else -1
+            at = w.end()
+            if not depth:
+                break
+        lets += text[:at] + "\n    "
+        text = text[at:].strip()
+    if text.startswith("("):
+        depth, parts, start = 0, [], 1
+        for i, ch in enumerate(text):
+            depth += ch in "([{"
+            depth -= ch in ")]}"
+            if depth == 1 and ch == ",":
+                parts.append(text[start:i].strip())
+                start = i + 1
+            if depth == 0:
+                if text[i + 1 :].strip():
+                    parts = []
+                else:
+                    parts.append(text[start:i].strip())
+                break
+        parts = [p for p in parts if p]
+        if len(parts) == len(names):
+            return [lets + p for p in parts]
+    if re.match(r"(rw|simp|search|omega|elim|cc|grind)\b", text):
+        return None
+    return [lets + f"({text}).{i}" for i in range(len(names))]
+
+
 def arguments(text):
     """The arguments of a call as they stand: names, and texts in parentheses."""
     out, at = [], 0
@@ -94,6 +167,7 @@ def name_of(line):
 
 class Frame:
     def __init__(self, crate, path, names, text):
+        self.clauses = clause_names(crate).get(path.split("/")[-1])
         self.crate, self.path, self.names, self.text = crate, path, names, text
         self.places = names["places"]
         self.index = {p[0]: i for i, p in enumerate(self.places)}
@@ -178,13 +252,32 @@ class Frame:
             place = self.index[parent]
         return place
 
+    def nearest(self, place, first):
+        """The place on the way to the goal that has the step, nearest to where the frame looked: a struct that is copied adds steps."""
+        plain = lambda s: s.replace("-", "").replace("_", "").lower()
+        way, at = [], self.asked
+        while at is not None:
+            way.append(at)
+            parent = self.places[at][1]
+            at = self.index[parent] if parent is not None else None
+        way.reverse()
+        depth = way.index(place) if place in way else 0
+        fit = [i for i, p in enumerate(way) if p != 0 and plain(self.places[p][2][0]) == plain(first)]
+        return way[min(fit, key=lambda i: abs(i - depth))] if fit else place
+
     def step(self, place, fields):
         """A field of a place: its text behind `c`, in the new names."""
         first, rest = fields[0], fields[1:]
+        if first not in ("args", "pre", "requires", "ranges", "lifetimes", "well_formed"):
+            plain = lambda s: s.replace("-", "").replace("_", "").lower()
+            if plain(self.places[place][2][0] if self.places[place][2] else "") not in (plain(first), plain(first[:-4])):
+                place = self.nearest(place, first)
         mine = self.places[place]
         old, new = mine[2] if mine[2] else ("", "")
         plain = lambda s: s.replace("-", "").replace("_", "").lower()
         # The binding of an arm.
+        if first.endswith("_lem") and plain(old) == plain(first[:-4]):
+            first = first[:-4]
         for arm in [self.arms[place]] + [a for i, a in enumerate(self.arms) if a and self.above(place, i)]:
             if not arm or plain(old) != plain(first):
                 continue
@@ -192,6 +285,12 @@ class Frame:
                 if plain(step) == plain(first) and way and rest[: len(way)] == way:
                     return ".".join(["", arm[0], label] + rest[len(way) :])
         if plain(first) == plain(old):
+            names = all_clauses().get(mine[3]) if mine[3] else None
+            if names and rest == ["ensures"]:
+                self.tuple = "(" + ", ".join(f"c.{new}.ensures.{n}" for n in names) + ")"
+                return None
+            if names and rest[:1] == ["ensures"] and len(rest) > 1 and rest[1].isdigit():
+                rest = ["ensures", names[int(rest[1])]] + rest[2:]
             return ".".join(["", new] + rest)
         if place == 0 and first == "pre":
             return ".".join(["", "requires"] + rest)
@@ -210,7 +309,7 @@ class Frame:
         """Turns what the text says of places; env has the place of each name for one."""
         env = dict(env)
         out, at = [], 0
-        token = re.compile(r"\blet\s+(" + ID + r")\s*=\s*|(?<![\w.'«-])(" + ID + r")((?:\.(?:«[^»]*»|[\w'-]+))*)")
+        token = re.compile(r"\blet\s+(" + ID + r")\s*=\s*|(?P<open>\((?=" + ID + r"\s))|(?<![\w.'«-])(" + ID + r")((?:\.(?:«[^»]*»|[\w'-]+))*)")
         while at < len(text):
             m = token.search(text, at)
             if not m:
@@ -230,16 +329,27 @@ class Frame:
                 out.append(m.group(0))
                 at = m.end()
                 continue
+            if m.group("open"):
+                got = self.place_expression(text, m.start(), env)
+                if not got:
+                    out.append("(")
+                    at = m.end()
+                    continue
             got = self.chain(text, m.start(), env)
             if got:
                 said, end = got
+                if said in self.lemmas and out and out[-1].endswith("(") and text[end : end + 1] == ")":
+                    out[-1] = out[-1][:-1]
+                    end += 1
                 out.append(said)
                 at = end
             else:
                 out.append(m.group(0))
                 at = m.end()
         # The test of a negation says now that what is negated is false, or true.
-        return re.sub(r"not-(?:true|false) _ (c\.if-not-[\w-]+\.(?:true|false))", r"\1", "".join(out))
+        said = re.sub(r"(c\.if-[\w-]+)\.taken\b", r"\1.true", "".join(out))
+        said = re.sub(r"(c\.if-[\w-]+)\.left\b", r"\1.false", said)
+        return re.sub(r"not-(?:true|false) _ (c\.if-not-[\w-]+\.(?:true|false))", r"\1", said)
 
     def place_expression(self, text, at, env):
         """A place that stands at the text's place: NAME.before.., HELPER PLACE, or either in parentheses. Gives the place, and where it ends."""
@@ -295,7 +405,8 @@ class Frame:
         if not m:
             return "c", end
         fields = [f for f in re.findall(r"«[^»]*»|[\w'-]+", m.group(0))]
-        return "c" + self.step(place, fields), end + m.end()
+        said = self.step(place, fields)
+        return self.tuple if said is None else "c" + said, end + m.end()
 
     def needed(self, name):
         """A lemma of the file that speaks of a place: it becomes a `let` of each answer that uses it, since in the new form each goal has a record of its own."""
@@ -357,11 +468,15 @@ class Frame:
                 continue
             place = self.index[asked[0]]
             env = {params[0]: place} if params else {}
-            self.lets, self.let_opened = {}, []
+            self.lets, self.let_opened, self.asked = {}, [], place
             said = self.translate(body, env)
             if self.lets:
                 said = "\n    ".join(self.lets.values()) + "\n    " + said.strip()
                 opened = opened + [o for o in self.let_opened if o not in opened]
+            parts = new.startswith("returns") and self.clauses and split_clauses(said, self.clauses)
+            if parts:
+                kept += [(f"{new}-clause-{n}", opened, p, note if i == 0 else []) for i, (n, p) in enumerate(zip(self.clauses, parts))]
+                continue
             kept.append((new, opened, said, note))
         # What else the file declares, and the answers use.
         for name, b in self.decl.items():
@@ -403,6 +518,7 @@ class Frame:
             return "goal." + self.names["places_by_name"][i] if i < len(self.names["places_by_name"]) else "goal." + self.places[i][0]
 
         m = re.search(r"\((\w+) : tie\.([\w-]+)\)", b)
+        self.asked = self.place_named(m.group(2)) if m else 0
         env = {m.group(1): self.place_named(m.group(2))} if m else {}
         out = self.translate(b, env) if env else b
         return re.sub(r"tie\.((?:Start|Then|Else|After|In|At)[\w-]*)", one, out)
