@@ -1,6 +1,6 @@
 -- Where at most one timer runs, its number says which timers run; and where at most one may run, at most one does.
 use mathlib.Core.Path.{◌≡◌, refl, sym}
-use mathlib.Core.Bool.{Bool, true, false, not, ◌&&◌, ◌||◌}
+use mathlib.Core.Bool.{Bool, true, false, not, ◌||◌}
 use lib.Dec.{leb}
 use borrow.Author.Tests.{not-true}
 use Rattle.timer.specs.declared.Timers.{Timers}
