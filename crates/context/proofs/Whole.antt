@@ -12,7 +12,6 @@ use Rattle.context.specs.declared.Chooser.TheVariants.{Neither, Us, Cell}
 use Rattle.context.specs.declared.Remembered.{Remembered}
 use Rattle.context.specs.States.{same, among}
 use Rattle.context.proofs.States.{same-state}
-use Rattle.context.specs.declared.Remembered.TheVariants as Remembered
 
 -- The test holds of every state of a list.
 abbrev pub in_all : (State → Bool) → List State → Bool

@@ -3,7 +3,6 @@ use Rattle.std.specs.Prelude.{ℕ, List, [], ◌∷◌, Bool, true, false, cond,
 use Rattle.codes.specs.declared.state.State.{State}
 use Rattle.codes.specs.declared.state.State.TheVariants.{U0}
 use Rattle.codes.specs.declared.attributes.Parameters.{Parameters}
-use Rattle.octets.specs.declared.Reference.{Reference}
 use Rattle.timer.specs.Timers.{no_timers}
 use Rattle.context.specs.declared.Context.{Context}
 use Rattle.context.specs.declared.Remembered.TheVariants.{Nothing}

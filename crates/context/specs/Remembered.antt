@@ -4,7 +4,6 @@ use Rattle.std.specs.Prelude.{ℕ, Bool, true, false}
 use Rattle.codes.specs.declared.state.State.{State}
 use Rattle.codes.specs.declared.state.State.TheVariants.{U0, U0p, U1, U2, U3, U4, U5, U6, U2sl, U2wr, U2r, U2ws, U2sr, U2nc}
 use Rattle.context.specs.declared.Remembered.{Remembered}
-use Rattle.context.specs.declared.Remembered.TheVariants as Remembered
 
 -- As a number: that of the state in a log, and 0 for nothing.
 unfoldable pub remembered_number : Remembered → ℕ
