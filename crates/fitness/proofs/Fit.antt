@@ -4,9 +4,6 @@ use mathlib.Core.Bool.{Bool, true, false, not, ◌&&◌, ◌||◌}
 use lib.Dec.{eqb, leb}
 use borrow.Author.Tests.{eqb-true, not-true}
 use Rattle.codes.specs.declared.state.State.TheVariants.{U0}
-use Rattle.codes.specs.declared.attributes.Parameters.{Parameters}
-use Rattle.octets.specs.declared.Reference.{Reference}
-use Rattle.timer.specs.declared.Timers.{Timers}
 use Rattle.octets.proofs.Choice.{never}
 use Rattle.context.specs.declared.Context.{Context}
 use Rattle.context.specs.declared.Remembered.{Remembered}

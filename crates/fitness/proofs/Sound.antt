@@ -8,7 +8,6 @@ use Rattle.octets.proofs.Choice.{never as impossible}
 use Rattle.codes.specs.declared.state.State.{State}
 use Rattle.codes.specs.declared.state.State.TheVariants.{U0, U5}
 use Rattle.codes.specs.declared.attributes.Parameters.{Parameters}
-use Rattle.timer.specs.declared.Timer.{Timer}
 use Rattle.timer.specs.declared.Timer.TheVariants.{MmEst, Term, ConnReq, NoChannel, Pres}
 use Rattle.timer.specs.declared.Timers.{Timers}
 use Rattle.timer.specs.Timers.{is_on, timer_number, running_among, with_timer, how_many, no_timers, alone}
