@@ -20,9 +20,7 @@ use Rattle.fitness.specs.Tables.{fitness_of}
 use Rattle.fitness.proofs.Sound.{Sound as SoundFitness}
 use Rattle.fitness.proofs.Tables.{fitness_sound as of-fitness}
 use Rattle.transitions.specs.declared.Note.{Note}
-use Rattle.transitions.specs.declared.Note.TheVariants as Note
 use Rattle.transitions.specs.declared.Stores.{Stores}
-use Rattle.transitions.specs.declared.Stores.TheVariants as Stores
 use Rattle.transitions.specs.Table.{
   Effect,
   send,

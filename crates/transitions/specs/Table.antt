@@ -4,7 +4,6 @@ use Rattle.octets.specs.Rows.{rows}
 use Rattle.codes.specs.declared.state.State.{State}
 use Rattle.codes.specs.declared.state.State.TheVariants.{U0, U0p, U1, U2, U3, U4, U5, U6, U2sl, U2wr, U2r, U2ws, U2sr, U2nc}
 use Rattle.codes.specs.declared.protocol.Protocol.{Protocol}
-use Rattle.codes.specs.declared.protocol.Protocol.TheVariants as Protocol
 use Rattle.codes.specs.MessageTypes.{
   IMMEDIATE-SETUP,
   SETUP,
@@ -22,7 +21,6 @@ use Rattle.version.specs.declared.Table.TheVariants.{First, Second, Third, Group
 use Rattle.version.specs.Version.{protocol_of}
 use Rattle.context.specs.declared.Context.{Context}
 use Rattle.context.specs.declared.Remembered.{Remembered}
-use Rattle.context.specs.declared.Remembered.TheVariants as Remembered
 use Rattle.context.specs.Remembered.{remembering, returning}
 use Rattle.context.specs.States.{same}
 use Rattle.fitness.specs.Tables.{sub_states}
@@ -32,11 +30,9 @@ use Rattle.timer.specs.Timers.{timer_number, is_on, with_timer}
 use Rattle.transitions.specs.declared.Send.{Send}
 use Rattle.transitions.specs.declared.Send.TheVariants.{Nothing, ImmediateSetup, Setup, TerminationRequest}
 use Rattle.transitions.specs.declared.Stores.{Stores}
-use Rattle.transitions.specs.declared.Stores.TheVariants as Stores
 use Rattle.transitions.specs.declared.Memory.{Memory}
 use Rattle.transitions.specs.declared.Memory.TheVariants.{Keep, Remember, Forget}
 use Rattle.transitions.specs.declared.Note.{Note}
-use Rattle.transitions.specs.declared.Note.TheVariants as Note
 use Rattle.transitions.specs.declared.Taken.{Taken}
 use Rattle.transitions.specs.declared.Decision.{Decision}
 use Rattle.transitions.specs.declared.Decision.TheVariants.{Take, NoStep, Ignore, Report, TellStatus, SetParameters}
