@@ -12,7 +12,6 @@ use Rattle.transitions.specs.declared.Send.TheVariants as Send
 use Rattle.transitions.specs.declared.Stores.TheVariants as Stores
 use Rattle.transitions.specs.declared.Memory.TheVariants.{Keep, Forget}
 use Rattle.transitions.specs.declared.Note.{Note}
-use Rattle.transitions.specs.declared.Note.TheVariants as Note
 use Rattle.transitions.specs.declared.Decision.{Decision}
 use Rattle.transitions.specs.declared.Decision.TheVariants.{Take, NoStep}
 use Rattle.transitions.specs.Table.{sentences, incompatible}
