@@ -1,0 +1,35 @@
+-- `in_u3` meets its contract: each arm is the table's row, and the numbers without an arm have none.
+use Rattle.codes.specs.declared.state.State.TheVariants.{U3}
+use Rattle.octets.proofs.Rows.{no_row}
+use Rattle.transitions.specs.declared.Decision.TheVariants.{NoStep}
+use Rattle.codes.specs.declared.protocol.Protocol.TheVariants.{Broadcast}
+use Rattle.transitions.specs.Table.{rows_of, events_in, happened_in}
+use Rattle.event_rows.proofs.in_u3.Goals as goal
+
+pub returns-in-3 : goal.returns-in-3
+unfolding happened_in
+returns-in-3 c = rw c.in-3.is c.joined.ensures
+
+pub returns-in-19 : goal.returns-in-19
+unfolding happened_in
+returns-in-19 c = rw c.in-19.is c.forgotten.ensures
+
+pub returns-in-5 : goal.returns-in-5
+unfolding happened_in
+returns-in-5 c = rw c.in-5.is
+
+pub returns-in-9 : goal.returns-in-9
+unfolding happened_in
+returns-in-9 c = rw c.in-9.is
+
+pub returns-in-8 : goal.returns-in-8
+unfolding happened_in
+returns-in-8 c = rw c.in-8.is
+
+pub returns-in-0-to-2 : goal.returns-in-0-to-2
+unfolding happened_in
+returns-in-0-to-2 c = rw c.in-0-to-2.in-0-to-2-own.keys6
+
+pub returns-in-0-to-2-2 : goal.returns-in-0-to-2-2
+unfolding happened_in
+returns-in-0-to-2-2 c = no_row c.args.number NoStep (events_in U3 c.args.context (rows_of Broadcast c.args.table)) c.in-0-to-2.in-0-to-2-own.rest.0
