@@ -33,16 +33,15 @@ use Rattle.fitness.specs.Tables.{fitness_of, consistent, fit_of}
 use Rattle.context.proofs.States.{same-state}
 use Rattle.context.specs.declared.Chooser.{Chooser}
 use Rattle.context.proofs.Whole.{and_left, and_right, and_both, if_so, of_choosers, at_chooser}
-use Rattle.fitness.proofs.Fit.{fit-known, fit-consistent, fit-value, fit-timers, fit_remembered, fit_talk, fit_chooser, fit-pending, fit_made, fit_u0}
+use Rattle.fitness.proofs.Fit.{fit-known, fit-consistent, fit-value, fit-timers, fit_remembered, fit_chooser, fit-pending, fit_made, fit_u0}
 use Rattle.fitness.proofs.Sound.{Sound as SoundFitness, entering-consistent, orig_kept, cleared_sound}
 use Rattle.transitions.specs.declared.Stores.{Stores}
 use Rattle.transitions.specs.declared.Stores.TheVariants.{Nothing, ValueAndReference, ItsReference, ItsReferenceAndOriginator}
 use Rattle.transitions.specs.declared.Note.{Note}
-use Rattle.transitions.specs.declared.Note.TheVariants as Note
 use Rattle.transitions.specs.declared.Taken.{Taken}
 use Rattle.transitions.specs.declared.Decision.{Decision}
 use Rattle.transitions.specs.declared.Decision.TheVariants.{Take, NoStep, Ignore, Report, TellStatus, SetParameters}
-use Rattle.transitions.specs.Table.{Row, step_table, timers_after, remembered_after, decided_by}
+use Rattle.transitions.specs.Table.{Row, step_table, timers_after, remembered_after}
 use Rattle.transitions.proofs.Sound.{pends_termination, pends_status, chooser_after, names_originator, Sound, rows_sound}
 use Rattle.transitions.proofs.Decided.{OfTaken, KeepsTalk, Keeps, Heard, decided_talk, decided_keeps, decided_heard}
 use Rattle.call.specs.declared.Due.{Due}

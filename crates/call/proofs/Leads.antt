@@ -25,7 +25,6 @@ use Rattle.fitness.specs.Fitness.{consistent_by}
 use Rattle.fitness.specs.Tables.{fitness_of, fit_of}
 use Rattle.fitness.proofs.Sound.{Sound as SoundFitness}
 use Rattle.transitions.specs.declared.Note.{Note}
-use Rattle.transitions.specs.declared.Note.TheVariants as Note
 use Rattle.transitions.specs.declared.Taken.{Taken}
 use Rattle.transitions.specs.declared.Decision.{Decision}
 use Rattle.transitions.specs.declared.Decision.TheVariants.{Take, NoStep, Ignore, Report, TellStatus, SetParameters}

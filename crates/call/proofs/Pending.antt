@@ -1,21 +1,19 @@
 -- What was pending is sent: a context that is fit but for what COMM or ORIG, now true, has made due is fit behind that.
-use mathlib.Core.Path.{◌≡◌, refl, sym, subst, ◌∙◌}
-use mathlib.Core.Bool.{Bool, true, false, cond, not, ◌&&◌, ◌||◌}
+use mathlib.Core.Path.{◌≡◌, refl, sym, subst}
+use mathlib.Core.Bool.{Bool, true, false, not, ◌&&◌, ◌||◌}
 use lib.Dec.{leb}
 use borrow.Author.Tests.{not-true}
 use Rattle.octets.proofs.Choice.{at_cond, never}
 use Rattle.codes.specs.declared.state.State.TheVariants.{U0, U5}
-use Rattle.codes.specs.declared.attributes.Parameters.{Parameters}
 use Rattle.context.specs.declared.Context.{Context}
-use Rattle.context.specs.declared.Remembered.{Remembered}
 use Rattle.context.specs.declared.Remembered.TheVariants.{Nothing}
-use Rattle.context.specs.Context.{entering, cleared}
-use Rattle.context.specs.Remembered.{is_something, remembering}
+use Rattle.context.specs.Context.{cleared}
+use Rattle.context.specs.Remembered.{is_something}
 use Rattle.context.specs.States.{same, among}
 use Rattle.context.proofs.Whole.{and_left, and_right, and_both, if_so}
 use Rattle.fitness.specs.Fitness.{Fitness, consistent_by, timers_fit_by, remembered_fit_by, chooser_fit_by, pending_fit_by, talk_fit_by, fit_by}
-use Rattle.fitness.proofs.Fit.{fit-known, fit-consistent, fit-value, fit-timers, fit_remembered, fit_chooser, fit-pending, fit_made, nothing_remembered}
-use Rattle.fitness.proofs.Sound.{Sound, request_timers, entering-consistent, waits_in_u5, remembers_none, can_be_remembered, request_timers-fit, chooser_waits}
+use Rattle.fitness.proofs.Fit.{fit_made, nothing_remembered}
+use Rattle.fitness.proofs.Sound.{Sound, entering-consistent, waits_in_u5, remembers_none, can_be_remembered, request_timers-fit, chooser_waits}
 use Rattle.call.specs.Talk.{sent_in, answered, requested, flushed}
 
 -- ---- tests, bit by bit

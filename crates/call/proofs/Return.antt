@@ -6,7 +6,6 @@ use mathlib.Core.Bool.{Bool, true, false, not, ◌&&◌}
 use borrow.Author.Tests.{not-true}
 use Rattle.octets.proofs.Choice.{never}
 use Rattle.codes.specs.declared.state.State.{State}
-use Rattle.codes.specs.declared.state.State.TheVariants as State
 use Rattle.octets.specs.declared.Run.{Run}
 use Rattle.message.specs.declared.Message.TheVariants.{TerminationReject}
 use Rattle.timer.specs.Timers.{no_timers, with_timer}
@@ -16,7 +15,6 @@ use Rattle.version.specs.Version.{protocol_of}
 use Rattle.codes.specs.declared.protocol.Protocol.TheVariants.{Broadcast}
 use Rattle.codes.specs.MessageTypes.{TERMINATION-REJECT}
 use Rattle.context.specs.declared.Context.{Context}
-use Rattle.context.specs.declared.Remembered.TheVariants as Remembered
 use Rattle.context.specs.Context.{start_row, set_row, entering}
 use Rattle.context.specs.Talk.{no_talk}
 use Rattle.context.specs.Remembered.{returning}

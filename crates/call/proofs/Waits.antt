@@ -31,7 +31,6 @@ use Rattle.transitions.specs.declared.Send.TheVariants.{Nothing}
 use Rattle.transitions.specs.declared.Stores.TheVariants as Stores
 use Rattle.transitions.specs.declared.Memory.TheVariants.{Keep}
 use Rattle.transitions.specs.declared.Note.{Note}
-use Rattle.transitions.specs.declared.Note.TheVariants as Note
 use Rattle.transitions.specs.declared.Taken.{Taken}
 use Rattle.transitions.specs.declared.Decision.{Decision}
 use Rattle.transitions.specs.declared.Decision.TheVariants.{Take, NoStep, Ignore, TellStatus}

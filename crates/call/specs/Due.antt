@@ -1,5 +1,5 @@
 -- What is due where something happens, and what each comes to.
-use Rattle.std.specs.Prelude.{ℕ, List}
+use Rattle.std.specs.Prelude.{List}
 use Rattle.context.specs.declared.Context.{Context}
 use Rattle.fitness.specs.Fitness.{Fitness}
 use Rattle.version.specs.declared.Table.{Table}

@@ -13,9 +13,7 @@ use Rattle.codes.specs.MessageTypes.{
 }
 use Rattle.octets.specs.declared.Reference.{Reference}
 use Rattle.message.specs.declared.Message.{Message}
-use Rattle.message.specs.declared.Message.TheVariants as Message
 use Rattle.call.specs.declared.Event.{Event}
-use Rattle.call.specs.declared.Event.TheVariants as Event
 use Rattle.call.specs.declared.Seen.{Seen}
 
 -- What is not carried is 0.

@@ -5,7 +5,6 @@ use Rattle.codes.specs.declared.state.State.{State}
 use Rattle.codes.specs.declared.state.State.TheVariants.{U5, U2ws}
 use Rattle.codes.specs.declared.attributes.Parameters.{Parameters}
 use Rattle.codes.specs.Attributes.{parameters_of}
-use Rattle.timer.specs.declared.Timers.{Timers}
 use Rattle.timer.specs.declared.Timer.TheVariants.{MmEst, Term}
 use Rattle.timer.specs.Timers.{with_timer}
 use Rattle.context.specs.declared.Chooser.TheVariants.{Us, Cell}
@@ -15,9 +14,7 @@ use Rattle.context.specs.Context.{entering}
 use Rattle.context.specs.Remembered.{remembering}
 use Rattle.context.specs.States.{same}
 use Rattle.transitions.specs.declared.Note.{Note}
-use Rattle.transitions.specs.declared.Note.TheVariants as Note
 use Rattle.transitions.specs.declared.Stores.{Stores}
-use Rattle.transitions.specs.declared.Stores.TheVariants as Stores
 use Rattle.call.specs.declared.Seen.{Seen}
 use Rattle.call.specs.declared.Sent.{Sent}
 
