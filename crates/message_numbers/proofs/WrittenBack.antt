@@ -1,6 +1,6 @@
 -- Reading what was written from numbers gives the same numbers back for the fields of their kind.
 use Prim.Native.Nat.{ℕ, ◌≤◌}
-use mathlib.Core.Path.{◌≡◌, refl, ap, sym, subst, ◌∙◌}
+use mathlib.Core.Path.{◌≡◌, refl, ap, sym, ◌∙◌}
 use mathlib.Core.List.{List}
 use mathlib.Core.Bool.{Bool, true, false, cond}
 use native.Mathlib.Omega.{arith}
@@ -10,12 +10,12 @@ use Rattle.codes.specs.declared.protocol.Protocol.{Protocol}
 use Rattle.message.specs.declared.Message.{Message}
 use Rattle.message.specs.declared.Reading.{Reading}
 use Rattle.message.specs.declared.Reading.TheVariants.{Is as Reads, Unreadable, TooLong}
-use Rattle.message.specs.Content.{Content, content_of}
+use Rattle.message.specs.Content.{content_of}
 use Rattle.message.specs.Reading.{read_message}
 use Rattle.writing.specs.declared.Wrote.{Wrote}
 use Rattle.writing.specs.declared.Wrote.TheVariants.{Written, ShortBuffer, OutOfRange}
 use Rattle.writing.specs.Writing.{write_answer, write_leaves, written_number}
-use Rattle.roundtrip.specs.Back.{Says as ReadsAs, GivesBack}
+use Rattle.roundtrip.specs.Back.{Says as ReadsAs}
 use Rattle.roundtrip.proofs.RoundTrip.{written_back}
 use Rattle.message_numbers.specs.declared.Numbers.{Numbers}
 use Rattle.message_numbers.specs.declared.NumbersRead.{NumbersRead}

@@ -1,5 +1,5 @@
 -- What it means that numbers are taken back: as the message they came from, and as the octets written from them.
-use Rattle.std.specs.Prelude.{ℕ, ◌≤◌, ◌≡◌, List, [], ◌∷◌, ◌++◌, Bool, cond, eqb}
+use Rattle.std.specs.Prelude.{ℕ, ◌≤◌, ◌≡◌, List, [], ◌∷◌, Bool, cond, eqb}
 use Rattle.octets.specs.Rows.{rows}
 use Rattle.codes.specs.MessageTypes.{
   IMMEDIATE-SETUP,
