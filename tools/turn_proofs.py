@@ -338,7 +338,7 @@ class Frame:
             got = self.chain(text, m.start(), env)
             if got:
                 said, end = got
-                if said in self.lemmas and out and out[-1].endswith("(") and text[end : end + 1] == ")":
+                if re.fullmatch(r"[\w.'«»-]+", said) and out and out[-1].endswith("(") and text[end : end + 1] == ")":
                     out[-1] = out[-1][:-1]
                     end += 1
                 out.append(said)
@@ -397,6 +397,13 @@ class Frame:
             if got:
                 self.needed(m.group(0))
                 return m.group(0), got[1]
+        if m and m.group(0) in self.values:
+            space = re.match(r"\s+", text[at + m.end() :])
+            got = space and self.place_expression(text, at + m.end() + space.end(), env)
+            if got:
+                param, place, body = self.values[m.group(0)]
+                said = self.translate(body, {param: place}).strip()
+                return (said if re.fullmatch(r"c[\w.'«»-]*", said) else f"({said})"), got[1]
         got = self.place_expression(text, at, env)
         if not got:
             return None
@@ -418,7 +425,11 @@ class Frame:
         self.let_opened += [o for o in opened if o not in self.let_opened]
 
     def find_lemmas(self):
-        self.lemmas = {}
+        self.lemmas, self.values = {}, {}
+        for name, b in list(self.decl.items()):
+            m = re.match(r"(?:abbrev )?(?:pub )?" + re.escape(name) + r" : tie\.([\w-]+) → (?!tie\.)[^\n]*\n" + re.escape(name) + r" (\w+) =\s+(.*)$", b, re.S)
+            if m and not m.group(1).startswith(("Need", "invariant", "decreases")):
+                self.values[name] = (m.group(2), self.place_named(m.group(1)), m.group(3))
         for name, b in list(self.decl.items()):
             m = re.match(r"(?:abbrev )?(?:pub )?" + re.escape(name) + r" : \((\w+) : tie\.([\w-]+)\) → (.*?)\n(?:unfolding ([^\n]*)\n)?" + re.escape(name) + r" (\w+) =\s+(.*)$", b, re.S)
             if m:
@@ -449,7 +460,7 @@ class Frame:
         self.find_lemmas()
         folder = f"{ROOT}/crates/{self.crate}/proofs/{self.path}"
         dotted = self.path.replace("/", ".")
-        used = {self.spec_name} | set(self.helpers) | set(self.lemmas)
+        used = {self.spec_name} | set(self.helpers) | set(self.lemmas) | set(self.values)
         answers, invariants = [], []
         loops = self.names["loops"]
         measured = len(self.loop_args) == 2 * len(loops)
