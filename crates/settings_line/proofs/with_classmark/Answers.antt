@@ -1,0 +1,17 @@
+-- `settings_line::with_classmark` meets its contract: the value is none, or is set where its name stands once.
+use mathlib.Core.Path.{sym, ap, ◌∙◌}
+use borrow.Author.Tests.{not-true, not-false}
+use Rattle.settings_line.specs.Line.{turn_of}
+use Rattle.settings_line.proofs.Values.{classmark-none, classmark-some}
+use Rattle.settings_line.proofs.Turns.{turn_stopped}
+use Rattle.settings_line.proofs.with_classmark.Goals as goal
+
+pub returns-then-not-value : goal.returns-then-not-value
+unfolding turn_of
+returns-then-not-value c = turn_stopped _ _ _ _ c.stopped.ensures (classmark-none _ _ c.read_classmark-value.ensures (not-true _ c.if-not-value.true))
+
+pub returns : goal.returns
+unfolding turn_of
+returns c =
+    let read = c.read_classmark-value.ensures in let good = not-false _ c.if-not-value.false in
+    c.taken_once.ensures ∙ sym (ap (turn_of c.args.seen) (classmark-some _ _ read good))
