@@ -47,6 +47,19 @@ def one(crate, path, number, column, why):
             lines[number - 1] = line[: at[0]] + line[at[0] + 1 + len(m.group(1)) :]
             open(file, "w", encoding="utf-8").write("\n".join(lines))
             return "dropped ." + m.group(1)
+    m = re.search(r"has type `[^`]*\(?mathlib\.Core\.Bool\.not [^`]*` *$|has type `\S*◌≡◌ \(mathlib\.Core\.Bool\.not .*` *$", why, re.M)
+    if m:
+        for i in range(max(0, column - 3), column + 3):
+            n = re.match(r"\((c\.if-not-[\w-]+\.(true|false))\)|(c\.if-not-[\w-]+\.(true|false))", line[i:])
+            if n and line[i - 8 : i] != "not-true" and (i == 0 or not re.match(r"[\w.]", line[i - 1])):
+                fact = n.group(1) or n.group(3)
+                if line[i - 1] == "(" and n.group(3) and line[i + len(fact)] == ")":
+                    new = f"not-{fact.split('.')[-1]} _ {fact}"
+                else:
+                    new = f"(not-{fact.split('.')[-1]} _ {fact})"
+                lines[number - 1] = line[:i] + new + line[i + len(n.group(0)) :]
+                open(file, "w", encoding="utf-8").write("\n".join(lines))
+                return "not-" + fact
     m = re.search(r"has no field `([\w-]+)`.*write `(\.[^`]+)` in place of `(\.[^`]+)`", why, re.S)
     if m:
         for i in range(max(0, column - 2 - len(m.group(3))), column + 2):
@@ -82,6 +95,9 @@ def set_aside(crate, path, number):
         return None
     aside = f"/tmp/aside/{crate}/{path}"
     os.makedirs(os.path.dirname(aside), exist_ok=True)
+    if not os.path.exists(aside + ".whole"):
+        with open(aside + ".whole", "w", encoding="utf-8") as f:
+            f.write("\n".join(lines))
     with open(aside, "a", encoding="utf-8") as f:
         f.write("\n".join(lines[start:end]) + "\n")
     lines[start:end] = []
