@@ -20,8 +20,8 @@ use Rattle.radio.specs.Step.{fitness_refusal, refusal_of, refused, step_of}
 use Rattle.radio.proofs.Range.{InRange, in_range, neither_first, refused_over}
 use Rattle.radio.proofs.Reacting.{of_step}
 use Rattle.settings.specs.Settings.{settings_of}
-use Rattle.log.specs.Layout.{Meant, ranged}
-use Rattle.log.proofs.Fields.{claim-fits, ranged-claim}
+use Rattle.log_entry.specs.Layout.{Meant, ranged}
+use Rattle.log_entry.proofs.Fields.{claim-fits, ranged-claim}
 use Rattle.recorder.specs.Recording.{record_answer}
 use Rattle.verdict.specs.declared.Judged.TheVariants.{OutOfRange, TooLong}
 use Rattle.verdict.specs.Judge.{judge_of}

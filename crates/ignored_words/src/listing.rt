@@ -4,7 +4,7 @@ use codes::protocol::Protocol;
 use context::{Context, state_number};
 use fields::{fault_number, octet_at};
 use libc::STDOUT_FILENO;
-use log::{Found, read_entry};
+use log_entry::{Found, read_entry};
 use log_words::entry::{tell_time, write_reason, write_state_name};
 use message::{Own, Reading};
 use replay::{message_of, step_entry};

@@ -3,7 +3,7 @@ ghost use Rattle.std.specs.Prelude.{◌≤◌, length};
 
 use fields::malformed;
 use fields::words::{number_word, octets_word, reference_word};
-use log::Reference;
+use log_entry::Reference;
 use recorder::Recorded;
 use recorder_size::{Claims, TimedEvent};
 use saying::{say, say_decimal, say_hex};

@@ -14,7 +14,7 @@ use clock::time_of;
 use codes::event;
 use codes::protocol::Protocol;
 use joined::{Joined, join};
-use log::Reference;
+use log_entry::Reference;
 use named::read_named;
 use names::event_named;
 use text::decimal::number_of;
@@ -200,7 +200,7 @@ fn read_event(
         mode: 0,
         count: 0,
     };
-    if log::carries_call(event as u32) {
+    if log_entry::carries_call(event as u32) {
         return read_value(line, word.next, told);
     }
     if event == event::RECEIVED {

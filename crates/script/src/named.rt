@@ -7,7 +7,7 @@ use crate::words::word_from;
 use crate::{Call, Fault, Line, Told, Unfit, mode_named};
 use codes::event;
 use codes::protocol::Protocol;
-use log::Reference;
+use log_entry::Reference;
 use text::words::part;
 
 // What stands behind `receive`. The mode may come before the name too.

@@ -7,7 +7,7 @@ use crate::place::{LEAD, MARGIN, Place, RIGHT, View, in_new_band, next_place, on
 use crate::segment::{draw_segment, draw_tail};
 use crate::window::{Band, tail_time};
 use drawing::{begin_text, end_text};
-use log::{Found, read_entry};
+use log_entry::{Found, read_entry};
 use log_words::entry::write_clock;
 use saying::{write_long, write_text};
 

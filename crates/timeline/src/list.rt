@@ -8,7 +8,7 @@ use codes::{action, event};
 use drawing::{begin_text, end_text, write_form};
 use fields::reply_messages::messages_of;
 use fields::{fault_number, octet_at};
-use log::{Claim, Entry, Run};
+use log_entry::{Claim, Entry, Run};
 use log_words::entry::{
     is_return, write_actions, write_answer_name, write_clock, write_event_name, write_state_name,
 };

@@ -4,7 +4,7 @@ use crate::lanes::lane;
 use crate::place::{Place, View, less, sum};
 use codes::{answer, event};
 use drawing::{attribute, begin_rectangle, finish, line, number, shape, write_form};
-use log::Entry;
+use log_entry::Entry;
 
 // Filled: taken. Grey and square: reported to the network. Hollow: refused.
 fn begin_badge(descriptor: i32, answer: u8, x: u64, y: u64) {

@@ -2,7 +2,7 @@
 use crate::reason::{Transaction, transaction_behind};
 use codes::{action, answer, event};
 use fields::reply_messages::messages_of;
-use log::{Claim, Entry, Found, read_entry};
+use log_entry::{Claim, Entry, Found, read_entry};
 use log_words::entry::asked_from;
 use log_words::has_invitation_timer;
 use timer::{Timers, Window};

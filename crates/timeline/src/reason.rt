@@ -3,7 +3,7 @@
 use codes::protocol::{Protocol, discriminator};
 use codes::{answer, event};
 use fields::octet_at;
-use log::{Data, Entry};
+use log_entry::{Data, Entry};
 use log_words::entry::write_reason;
 use message::{Identity, Message, Reading};
 use saying::write_text;

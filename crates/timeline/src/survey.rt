@@ -5,7 +5,7 @@ use crate::place::{
     invitation_left, is_cut, joining_left, onward, shown, smaller, sum,
 };
 use codes::event;
-use log::{Entry, Found, read_entry};
+use log_entry::{Entry, Found, read_entry};
 use timer::{Timers, Window};
 use version::Table;
 

@@ -24,7 +24,7 @@ use Rattle.log_data.specs.Reading.{carries_call, call_at, received_at, data_at}
 use Rattle.version.specs.Version.{table_of, has_event, greatest_state, greatest_actions, protocol_of}
 use Rattle.log_field.specs.Reading.{small_at, run_at}
 use Rattle.log_claim.specs.Reading.{claim_at}
-use Rattle.log.specs.Reading.{rest_at, entry_at}
+use Rattle.log_entry.specs.Reading.{rest_at, entry_at}
 use Rattle.judge_laws.specs.Judge.{narrow, turn, judge_from, judge}
 use Rattle.judge_laws.specs.Reading.{entries_in, entries}
 use Rattle.judge_laws.specs.TwoTimers.{judge_two}

@@ -15,11 +15,11 @@ use Rattle.message.specs.declared.Own.{Own}
 use Rattle.septets.specs.Number.{grouped, number_at}
 use Rattle.septets.specs.declared.Number.TheVariants.{Value}
 use Rattle.septets.proofs.Meaning.{Octets, Shortest, Exact, number-exact}
-use Rattle.log.specs.Layout.{Meant, written, ranged, version_bytes, entries as layout, whole}
-use Rattle.log.specs.Reading.{entry_at, meant}
-use Rattle.log.specs.declared.Found.{Found}
-use Rattle.log.specs.declared.Found.TheVariants.{Read, Unreadable}
-use Rattle.log.proofs.Exact.{EntryExact, entry-exact}
+use Rattle.log_entry.specs.Layout.{Meant, written, ranged, version_bytes, entries as layout, whole}
+use Rattle.log_entry.specs.Reading.{entry_at, meant}
+use Rattle.log_entry.specs.declared.Found.{Found}
+use Rattle.log_entry.specs.declared.Found.TheVariants.{Read, Unreadable}
+use Rattle.log_entry.proofs.Exact.{EntryExact, entry-exact}
 use Rattle.judge_laws.specs.Log.{Log, done, torn, WellFormed, Entry}
 use Rattle.judge_laws.specs.Reading.{on_read, entries_in, entries, written as written_by}
 use Rattle.judge_laws.proofs.Reading.{entries-written}

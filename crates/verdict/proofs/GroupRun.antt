@@ -33,7 +33,7 @@ use Rattle.septets.specs.Number.{groups, grouped, joined, groups_at, number_at, 
 use Rattle.log_field.specs.Reading.{small_at, run_at}
 use Rattle.log_data.specs.Reading.{carries_call, call_at, received_at, data_at}
 use Rattle.log_claim.specs.Reading.{claim_at}
-use Rattle.log.specs.Reading.{rest_at, entry_at}
+use Rattle.log_entry.specs.Reading.{rest_at, entry_at}
 use Rattle.judge_laws.specs.Judge.{narrow, turn, judge_from, judge}
 use Rattle.judge_laws.specs.Reading.{entries_in, entries}
 use Rattle.judge_laws.specs.TwoTimers.{judge_two}

@@ -27,7 +27,7 @@ use Rattle.version.specs.declared.Table.TheVariants.{First, Second, Third, Group
 use Rattle.version.specs.Version.{has_event, greatest_state, greatest_actions, protocol_of, longest}
 use Rattle.octets.specs.declared.Reference.{Reference}
 use Rattle.log_data.specs.Reading.{carries_call}
-use Rattle.log.specs.Layout.{Field, number, event_number, octets, all_in_range, data_fields, claim_fields, fields, ranged}
+use Rattle.log_entry.specs.Layout.{Field, number, event_number, octets, all_in_range, data_fields, claim_fields, fields, ranged}
 use Rattle.recorder.specs.Recording.{added, record_answer, answer_number}
 use Rattle.recorder.specs.declared.Recorded.{Recorded}
 use Rattle.recorder.specs.declared.Recorded.TheVariants.{Used, OutOfRange, TooLong, NoRoom}

@@ -20,8 +20,8 @@ use Rattle.septets.specs.Number.{grouped, groups, groups_at, joined, number_at}
 use Rattle.septets.specs.declared.Number.TheVariants.{Value}
 use Rattle.septets.proofs.Meaning.{number-reads}
 use Rattle.log_data.specs.Reading.{carries_call}
-use Rattle.log.specs.Layout.{Meant, ranged, kept, version_bytes, entries as layout, whole}
-use Rattle.log.proofs.ReadBack.{kept-written, kept-ranged}
+use Rattle.log_entry.specs.Layout.{Meant, ranged, kept, version_bytes, entries as layout, whole}
+use Rattle.log_entry.proofs.ReadBack.{kept-written, kept-ranged}
 use Rattle.recorder.specs.Recording.{Records, Begins as LogBegins, so_far}
 use Rattle.recorder.specs.declared.Recorded.TheVariants.{Used}
 use Rattle.recorder.proofs.Growth.{grown, length-kept, log_grows, whole_grows, begun-log}

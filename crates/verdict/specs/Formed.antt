@@ -5,7 +5,7 @@ use Rattle.version.specs.Version.{version_of}
 use Rattle.message.specs.declared.Own.{Own}
 use Rattle.septets.specs.Number.{number_at}
 use Rattle.septets.specs.declared.Number.TheVariants.{Value}
-use Rattle.log.specs.Layout.{Meant, ranged, whole}
+use Rattle.log_entry.specs.Layout.{Meant, ranged, whole}
 use Rattle.judge_laws.specs.Log.{WellFormed}
 use Rattle.verdict.specs.Judge.{entries_at}
 
