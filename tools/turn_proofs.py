@@ -349,7 +349,10 @@ class Frame:
         # The test of a negation says now that what is negated is false, or true.
         said = re.sub(r"(c\.if-[\w-]+)\.taken\b", r"\1.true", "".join(out))
         said = re.sub(r"(c\.if-[\w-]+)\.left\b", r"\1.false", said)
-        return re.sub(r"not-(?:true|false) _ (c\.if-not-[\w-]+\.(?:true|false))", r"\1", said)
+        calls = {p[2][1] for p in self.places if p[2] and p[3]} | {p[2][1].split("-")[0] for p in self.places if p[2] and p[3]}
+        return re.sub(
+            r"not-(?:true|false) _ (c\.if-not-([\w-]+)\.(?:true|false))", lambda m: m.group(1) if m.group(2) in calls else m.group(0), said
+        )
 
     def place_expression(self, text, at, env):
         """A place that stands at the text's place: NAME.before.., HELPER PLACE, or either in parentheses. Gives the place, and where it ends."""
