@@ -60,6 +60,14 @@ def one(crate, path, number, column, why):
                 lines[number - 1] = line[:i] + new + line[i + len(n.group(0)) :]
                 open(file, "w", encoding="utf-8").write("\n".join(lines))
                 return "not-" + fact
+    if re.search(r"the two types first differ where one has `\(mathlib\.Core\.Bool\.not [^`]*`\s+\(expected\)", why):
+        n = re.search(r"(?<!ap not )c\.if-not-[\w-]+\.(?:true|false)", line)
+        if n:
+            lines[number - 1] = line[: n.start()] + f"(ap not {n.group(0)})" + line[n.end() :]
+            uses = [i for i, l in enumerate(lines) if l.startswith("use ")]
+            lines[uses[0] : uses[0]] = ["use mathlib.Core.Bool.{not}", "use mathlib.Core.Path.{ap}"]
+            open(file, "w", encoding="utf-8").write("\n".join(lines))
+            return "ap not"
     m = re.search(r"has no field `([\w-]+)`.*write `(\.[^`]+)` in place of `(\.[^`]+)`", why, re.S)
     if m:
         for i in range(max(0, column - 2 - len(m.group(3))), column + 2):
