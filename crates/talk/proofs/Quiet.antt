@@ -9,7 +9,6 @@ use Rattle.codes.specs.declared.attributes.Parameters.{Parameters}
 use Rattle.context.specs.declared.Talk.{Talk}
 use Rattle.context.specs.States.{same}
 use Rattle.transitions.specs.declared.Note.{Note}
-use Rattle.transitions.specs.declared.Note.TheVariants as Note
 use Rattle.call.specs.Talk.{noted, awaiting_after}
 use Rattle.talk.specs.Quiet.{is_quiet}
 

@@ -4,7 +4,6 @@ use Rattle.codes.specs.declared.state.State.{State}
 use Rattle.codes.specs.declared.state.State.TheVariants.{U2ws}
 use Rattle.context.specs.States.{same}
 use Rattle.transitions.specs.declared.Note.{Note}
-use Rattle.transitions.specs.declared.Note.TheVariants as Note
 
 -- The row notes nothing, and U2ws is not where it leads.
 unfoldable pub is_quiet : Note → State → Bool
