@@ -12,7 +12,7 @@ use Rattle.codes.specs.declared.state.State.TheVariants.{U0, U0p, U1, U2, U3, U4
 use Rattle.codes.specs.declared.attributes.Parameters.{Parameters}
 use Rattle.codes.specs.CallStates.{call_state_code}
 use Rattle.codes.specs.Attributes.{attributes_of, weighs}
-use Rattle.octets.proofs.Choice.{at_cond, never}
+use Rattle.octets.proofs.Choice.{at_cond}
 use Rattle.message.specs.declared.Half.TheVariants.{Present}
 use Rattle.message.specs.Content.{Content, immediate_setup, setup, termination_request, status}
 use Rattle.message.specs.Tables.{fits, table, type_of, written, rows_fit}

@@ -28,9 +28,8 @@ use Rattle.writing.specs.Writing.{writable, octets_written, write_answer, write_
 use Rattle.codes.specs.declared.protocol.Protocol.{Protocol}
 use Rattle.context.specs.declared.Context.{Context}
 use Rattle.context.specs.Talk.{flag_of}
-use Rattle.message.specs.declared.Own.{Own}
 use Rattle.reply.specs.declared.Sender.{Sender}
-use Rattle.reply.specs.Reply.{sent, status_of, cause_octet, copied, copy_count, hearing, put_content, put_of}
+use Rattle.reply.specs.Reply.{sent, status_of, cause_octet, copied, copy_count, hearing, put_content}
 use Rattle.reply.specs.Put.{count_of, sender_of, status_by, status_telling, message_from, put_by, put_from}
 use Rattle.reply.proofs.Copied.{copied-part}
 
