@@ -1,6 +1,6 @@
 -- The twenty-one octets of settings: 0 ciphering key number, 1 to 3 classmark, 4 length of the own identity, 5 to 12 the identity and zeros behind it,
 -- 13 to 16 the joining timer and 17 to 20 the invitation timer, each in milliseconds, low octet first.
-use Rattle.std.specs.Prelude.{ℕ, ◌+◌, ◌*◌, min, List, [], ◌∷◌, ◌++◌, cond, ltb, get_or}
+use Rattle.std.specs.Prelude.{ℕ, ◌+◌, ◌*◌, min, List, ◌∷◌, ◌++◌, cond, ltb, get_or}
 use Rattle.octets.specs.Run.{part}
 use Rattle.octets.specs.Little.{little}
 use Rattle.octets.specs.declared.Run.{Run}
