@@ -13,7 +13,6 @@ use Rattle.context.specs.declared.Chooser.{Chooser}
 use Rattle.context.specs.declared.Chooser.TheVariants.{Neither, Us, Cell}
 use Rattle.context.specs.declared.Talk.{Talk}
 use Rattle.context.specs.declared.Remembered.{Remembered}
-use Rattle.context.specs.declared.Remembered.TheVariants as Remembered
 use Rattle.context.specs.States.{number_of}
 use Rattle.context.specs.Remembered.{remembered_number}
 use Rattle.context.specs.Talk.{chooser_number}
