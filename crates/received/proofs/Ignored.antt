@@ -2,14 +2,13 @@
 use Prim.Native.Nat.{ℕ, ◌%◌}
 use mathlib.Core.Path.{◌≡◌, refl, subst}
 use mathlib.Core.List.{List, [], ◌∷◌, ◌++◌}
-use mathlib.Core.Bool.{Bool, true, false, cond, not, ◌&&◌, ◌||◌}
+use mathlib.Core.Bool.{Bool, true, false, cond, not, ◌&&◌}
 use native.Mathlib.Omega.{arith}
 use lib.Dec.{eqb, ltb}
 use lib.ListN.{length, get_or}
 use Rattle.codes.specs.declared.state.State.TheVariants.{U0}
 use Rattle.codes.specs.Protocol.{discriminator}
 use Rattle.codes.specs.Attributes.{parameters_of}
-use Rattle.message.specs.declared.Message.{Message}
 use Rattle.message.specs.declared.Reading.{Reading}
 use Rattle.message.specs.declared.Reading.TheVariants.{Is, Unreadable, TooLong}
 use Rattle.message.specs.Reading.{read_message}
@@ -20,15 +19,12 @@ use Rattle.context.specs.States.{same}
 use Rattle.fitness.specs.Tables.{fitness_of, consistent}
 use Rattle.transitions.specs.declared.Decision.{Decision}
 use Rattle.transitions.specs.declared.Decision.TheVariants.{Take, NoStep, Ignore, Report, TellStatus, SetParameters}
-use Rattle.transitions.specs.Table.{step_table, decided_of}
+use Rattle.transitions.specs.Table.{step_table}
 use Rattle.transitions.proofs.Sound.{rows_sound}
 use Rattle.transitions.proofs.Decided.{Listens, decided_listens}
-use Rattle.call.specs.declared.Due.TheVariants.{Steps}
-use Rattle.call.specs.declared.Event.TheVariants.{Received}
 use Rattle.call.specs.declared.Reason.{Reason}
-use Rattle.call.specs.declared.Reason.TheVariants.{NoCall, TooShort, OtherProtocol, TransactionMismatch, OtherIdentity, CommFalse}
+use Rattle.call.specs.declared.Reason.TheVariants.{OtherIdentity, CommFalse}
 use Rattle.call.specs.declared.Seen.{Seen}
-use Rattle.call.specs.declared.Settled.{Settled}
 use Rattle.call.specs.Due.{settled_by, settled}
 use Rattle.call.specs.Events.{seen_message, seen_of}
 use Rattle.call.specs.Reasons.{reason_number}

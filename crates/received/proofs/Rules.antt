@@ -21,7 +21,6 @@ use Rattle.message.specs.declared.Reading.TheVariants.{Is, Unreadable, TooLong}
 use Rattle.message.specs.Content.{run_octets}
 use Rattle.message.specs.Tables.{transaction}
 use Rattle.message.specs.declared.Body.{Body}
-use Rattle.message.specs.declared.Body.TheVariants as Body
 use Rattle.message.specs.Reading.{body_of, read_as, read_message}
 use Rattle.version.specs.declared.Table.{Table}
 use Rattle.version.specs.Version.{protocol_of}
