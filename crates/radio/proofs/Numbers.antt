@@ -22,7 +22,6 @@ use Rattle.message.specs.declared.Message.TheVariants.{
   TerminationRequest,
 }
 use Rattle.call.specs.declared.Event.{Event}
-use Rattle.call.specs.declared.Event.TheVariants as Event
 use Rattle.call.specs.Events.{bare, carrying, seen_message, seen_of}
 use Rattle.radio.specs.declared.Told.{Told}
 use Rattle.radio.specs.declared.Told.TheVariants.{Is, NoEvent}

@@ -38,7 +38,6 @@ use Rattle.received.specs.Due.{due_of}
 use Rattle.received.proofs.Rules.{fits-small, every_due}
 use Rattle.step_arguments.specs.Arguments.{out_of_range}
 use Rattle.radio.specs.declared.Happened.{Happened}
-use Rattle.radio.specs.declared.Outcome.{Outcome}
 use Rattle.radio.specs.declared.Stepped.{Stepped}
 use Rattle.radio.specs.declared.Told.{Told}
 use Rattle.radio.specs.declared.Told.TheVariants.{Is, NoEvent}

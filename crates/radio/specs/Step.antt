@@ -40,7 +40,6 @@ use Rattle.message.specs.declared.Own.{Own}
 use Rattle.reply.specs.Reply.{reply_of, put_all}
 use Rattle.step_arguments.specs.Arguments.{argument_refusal}
 use Rattle.radio.specs.declared.Happened.{Happened}
-use Rattle.radio.specs.declared.Outcome.{Outcome}
 use Rattle.radio.specs.declared.Stepped.{Stepped}
 use Rattle.radio.specs.declared.Told.{Told}
 use Rattle.radio.specs.declared.Told.TheVariants.{Is, NoEvent}
