@@ -61,9 +61,13 @@ def one(crate, path, number, column, why):
                 open(file, "w", encoding="utf-8").write("\n".join(lines))
                 return "not-" + fact
     if re.search(r"the two types first differ where one has `\(mathlib\.Core\.Bool\.not [^`]*`\s+\(expected\)", why):
-        n = re.search(r"(?<!ap not )c\.if-not-[\w-]+\.(?:true|false)", line)
+        start, end = declaration(lines, number)
+        for at in range(number - 1, end):
+            n = re.search(r"(?<!ap not )c\.if-not-[\w-]+\.(?:true|false)", lines[at])
+            if n:
+                lines[at] = lines[at][: n.start()] + f"(ap not {n.group(0)})" + lines[at][n.end() :]
+                break
         if n:
-            lines[number - 1] = line[: n.start()] + f"(ap not {n.group(0)})" + line[n.end() :]
             uses = [i for i, l in enumerate(lines) if l.startswith("use ")]
             lines[uses[0] : uses[0]] = ["use mathlib.Core.Bool.{not}", "use mathlib.Core.Path.{ap}"]
             open(file, "w", encoding="utf-8").write("\n".join(lines))
@@ -123,7 +127,7 @@ def main():
             print(f"{crate}: proved")
             return
         changed, later, seen = False, [], set()
-        for path, line, column, why in ERROR.findall(said):
+        for path, line, column, why in sorted(ERROR.findall(said), key=lambda e: (e[0], -int(e[1]))):
             key = (path, declaration(open(f"{ROOT}/crates/{crate}/{path}", encoding="utf-8").read().split("\n"), int(line))[0]) if os.path.exists(f"{ROOT}/crates/{crate}/{path}") else None
             if key is None or "was not checked" in why or "was rejected" in why:
                 continue
