@@ -23,7 +23,7 @@ def crates():
         elif line.startswith("#"):
             continue
         elif ":" in line:
-            found.append((line.split(":")[0].strip(), floor))
+            found.append((line.split(":")[0].split()[0], floor))
     return found
 
 

@@ -166,3 +166,20 @@ def sum_of(known, name):
 def scratch():
     """A folder that goes when the script is through with it."""
     return tempfile.TemporaryDirectory(prefix="heidezirkel-")
+
+
+# ---- the library for C
+
+
+def archive(root, name):
+    """Proves and builds a static library as crates/NAME/out/libNAME.a; the status. What it stands on is proved first where it is not."""
+    known = crates(root)
+    folder = known[name].folder
+    if left_by_ci(known, below(known, name)):
+        (folder / "out").mkdir(exist_ok=True)
+        ended = subprocess.run([str(home() / "bin" / "rattle"), "build", *words(known, name), "--toolchain", str(home() / "toolchain"), "--backend", "llvm", "-o", "out/lib%s.a" % name],
+                               cwd=folder, stdin=subprocess.DEVNULL)
+        if not ended.returncode:
+            return 0
+    ended = subprocess.run(["rt", "all", "check", "--jobs", str(at_once())], cwd=folder, stdin=subprocess.DEVNULL)
+    return ended.returncode or subprocess.run(["rt", "lib"], cwd=folder, stdin=subprocess.DEVNULL).returncode
