@@ -23,7 +23,7 @@ def crates():
         elif line.startswith("#"):
             continue
         elif ":" in line:
-            found.append((line.split(":")[0].strip(), floor))
+            found.append((line.split(":")[0].split()[0], floor))
     return found
 
 
@@ -159,8 +159,8 @@ class File:
 
 
 def parts_of(name):
-    """A name, and for an operator such as `_++_` the words by which it is used."""
-    return [name] + ([part for part in name.split("_") if part] if "_" in name and not name.startswith("«") else [])
+    """A name, and for an operator such as `◌++◌` the words by which it is used."""
+    return [name] + ([part for part in name.split("◌") if part] if "◌" in name else [])
 
 
 def module_file(module):
@@ -168,19 +168,19 @@ def module_file(module):
     crate = crate_of(module)
     if not crate:
         return None
-    rest = re.sub(r"^Rattle·[a-z_]+(·specs|·proofs)?\.", "", module).replace(".", "/")
-    path = ROOT / "crates" / crate / (rest + ".antt")
+    path = ROOT / "crates" / crate / ("/".join(module.split(".")[2:]) + ".antt")
     return path if path.is_file() else None
 
 
 def crate_of(module):
-    found = re.match(r"^Rattle·([a-z_]+)(·specs|·proofs)?\.", module)
-    return found.group(1) if found else None
+    """The crate of this repository in which a module stands, or nothing for the kit's."""
+    found = re.match(r"^Rattle\.(\w+)\.", module)
+    return found.group(1) if found and (ROOT / "crates" / found.group(1)).is_dir() else None
 
 
 def full_name(module, name):
-    """One name for what a crate's own files and other crates' files call differently."""
-    return re.sub(r"^Rattle·([a-z_]+)·(specs|proofs)\.", r"Rattle·\1.", module) + "." + name
+    """A name with its module. The kit passes its names on from module to module, so these stand for themselves."""
+    return module + "." + name if crate_of(module) else name
 
 
 # ---- the code
@@ -223,9 +223,9 @@ def ghost_uses(path):
 
 
 def clauses(head, kind):
-    """What stands between the braces of each clause of a kind."""
+    """What stands between the braces of each clause of a kind, which may have a name."""
     found = []
-    for start in re.finditer(r"\b%s \{" % kind, head):
+    for start in re.finditer(r"\b%s(?: \w+)? \{" % kind, head):
         depth, at = 1, start.end()
         while depth:
             depth += {"{": 1, "}": -1}.get(head[at], 0)
@@ -236,7 +236,7 @@ def clauses(head, kind):
 
 # ---- terms
 
-INFIX = [["→"], ["×", "⊎"], ["≡", "≤", "<"], ["∷", "++"], ["&&", "||"], ["+", "-"], ["*", "/", "%"]]
+INFIX = [["→"], ["×", "⊎"], ["≡", "≤", "<", "=="], ["∷", "++"], ["&&", "||"], ["+", "-"], ["*", "/", "%"]]
 
 
 def parse(found):
@@ -262,7 +262,7 @@ OPERATORS = {operator for level in INFIX for operator in level}
 
 
 def parse_spine(rest):
-    """An application; a field behind it is the field of all that stands before."""
+    """An application; a field is that of the word or the bracket right before it."""
     spine = []
     while rest and rest[0] not in OPERATORS and rest[0] not in (")", "}", ",", ";", ":"):
         word = rest[0]
@@ -272,8 +272,12 @@ def parse_spine(rest):
         elif word == "record" and rest[1] == "{":
             inner, rest = parse_group(rest[1:])
             spine.append(("group", "record") + inner[1:])
-        elif word.startswith(".") and len(word) > 1:
-            spine = [("of", word[1:], applied(spine))]
+        elif word.startswith(".") and len(word) > 1 and spine:
+            spine[-1] = fields_of(spine[-1], word)
+            rest = rest[1:]
+        elif re.match(r"[a-z_][\w'-]*\.", word):
+            name, dot, fields = word.partition(".")
+            spine.append(fields_of(name, dot + fields))
             rest = rest[1:]
         else:
             spine.append(word)
@@ -281,6 +285,13 @@ def parse_spine(rest):
     if not spine:
         raise ValueError("a term is missing before: " + " ".join(rest[:5]))
     return applied(spine), rest
+
+
+def fields_of(term, fields):
+    """`x.f.g`: the field g of the field f of x."""
+    for field in fields[1:].split("."):
+        term = ("of", field, term)
+    return term
 
 
 def parse_group(rest):
@@ -341,7 +352,8 @@ def shown(term):
     if term[0] == "apply":
         return " ".join("(%s)" % shown(part) if isinstance(part, tuple) else part for part in term[1:])
     if term[0] == "of":
-        return "%s .%s" % (shown(term[2]) if not isinstance(term[2], tuple) else "(%s)" % shown(term[2]), term[1])
+        plain = not isinstance(term[2], tuple) or term[2][0] == "of"
+        return "%s.%s" % (shown(term[2]) if plain else "(%s)" % shown(term[2]), term[1])
     if term[0] == "infix":
         return "%s %s %s" % (shown(term[2]), term[1], shown(term[3]))
     return "(%s)" % " ".join(shown(part) for part in term[1:])
