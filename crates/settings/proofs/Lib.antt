@@ -1,3 +1,4 @@
 pub mod Coincide
+pub mod Feed
 pub mod Lines
 pub mod Walk

@@ -1,19 +1,18 @@
 -- Laws of the walk through a file, in the terms of the loop: at a place, with the number of the line that starts there and what is seen.
 use Prim.Native.Nat.{ℕ, suc, ◌+◌, ◌-◌, ◌≤◌, ◌<◌}
-use mathlib.Core.Path.{◌≡◌, ◌∙◌}
+use mathlib.Core.Path.{◌≡◌}
 use mathlib.Core.Bool.{true, false}
 use mathlib.Core.List.{List, ◌∷◌, map}
 use native.Mathlib.Omega.{arith}
 use native.Mathlib.Numerals.{add-one}
 use lib.ListN.{length, drop, length-drop, drop_of_length-le}
-use lib.Seq.{take-length, drop-drop}
-use Rattle.bytes.specs.Bytes.{index_of, slice}
+use lib.Seq.{drop-drop}
 use Rattle.octets.specs.Run.{part}
 use Rattle.settings_line.specs.declared.Fault.TheVariants.{NoLineFeed}
 use Rattle.settings_line.specs.declared.Seen.{Seen}
 use Rattle.settings_line.specs.declared.Turn.{Turn}
 use Rattle.settings.specs.declared.ReadSettings.{ReadSettings}
-use Rattle.settings.specs.Lines.{Ended, lines}
+use Rattle.settings.specs.Lines.{Ended, lines, first_feed}
 use Rattle.settings_line.specs.Line.{setting_of, turn_of}
 use Rattle.settings.specs.Settings.{meaning, refused_at, end_of, read_from}
 use Rattle.settings.proofs.Lines.{line-ended, line-cut}
@@ -27,27 +26,22 @@ unfolding lines read_from
 walk_end file at number seen h = rw (drop_of_length-le file h)
 
 -- One line, from its place to that of the next LF.
-module _ (file : List ℕ) (at number end : ℕ) (seen : Seen) (h : at < length file)
-    (p : end ≡ at + index_of 10 (slice at (length file) file)) where
-  next : end ≡ at + index_of 10 (drop at file)
-  unfolding slice
-  next = p ∙ rw (take-length file)
-
+module _ (file : List ℕ) (at number end : ℕ) (seen : Seen) (h : at < length file) (p : end ≡ at + first_feed (drop at file)) where
   pub walk_cut : length file ≤ end → refused_at number NoLineFeed ≡ left file at number seen
   unfolding read_from turn_of
   walk_cut k =
-      let e : end ≡ at + index_of 10 (drop at file) = next in
+      let e : end ≡ at + first_feed (drop at file) = p in
       let d : length (drop at file) ≡ length file - at = length-drop at file in
       rw (line-cut (drop at file) (omega arith) (omega arith))
 
   module _ (k : end < length file) where
     line-here : lines (drop at file) ≡ Ended (part file at (end - at)) ∷ lines (drop (end + 1) file)
     line-here =
-        let e : end ≡ at + index_of 10 (drop at file) = next in
+        let e : end ≡ at + first_feed (drop at file) = p in
         let d : length (drop at file) ≡ length file - at = length-drop at file in
-        let i : end - at ≡ index_of 10 (drop at file) = omega arith in
-        let j : end + 1 ≡ at + suc (index_of 10 (drop at file)) = omega arith in
-        rw (i, j, ← drop-drop (suc (index_of 10 (drop at file))) at file) (line-ended (drop at file) (omega arith))
+        let i : end - at ≡ first_feed (drop at file) = omega arith in
+        let j : end + 1 ≡ at + suc (first_feed (drop at file)) = omega arith in
+        rw (i, j, ← drop-drop (suc (first_feed (drop at file))) at file) (line-ended (drop at file) (omega arith))
 
     module _ (turn : Turn) (q : turn ≡ turn_of seen (setting_of (part file at (end - at)))) where
       pub walk_stop : turn.taken ≡ false → refused_at number turn.fault ≡ left file at number seen

@@ -2,7 +2,8 @@
 // with the number of its first bad line, why, and settings that are all zero: no line is skipped, and no default stands in.
 #![tactic(auto)]
 
-ghost use Rattle.std.specs.Prelude.{◌≡◌};
+ghost use Rattle.std.specs.Prelude.{◌≡◌, ◌+◌, ◌≤◌, length, drop};
+ghost use Rattle.settings.specs.Lines.{first_feed};
 ghost use Rattle.settings.specs.Settings.{refused_at, end_of, settings_of};
 
 use codes::answer;
@@ -58,6 +59,17 @@ fn at_end(number: usize, seen: Seen) -> ReadSettings
     }
 }
 
+// The place of the first LF from a place on, or the file's end where there is none.
+fn line_end(file: &[u8], at: usize) -> usize
+    requires { at ≤ length file.now }
+    ensures { result ≡ at + first_feed (drop at file.now) }
+{
+    match memchr::memchr(b'\n', &file[at..]) {
+        Some(place) => at + place,
+        None => file.len(),
+    }
+}
+
 // The settings that the file holds, or the first line that is refused.
 pub fn read_settings(file: &[u8]) -> ReadSettings
     ensures { result ≡ settings_of file.now }
@@ -66,7 +78,7 @@ pub fn read_settings(file: &[u8]) -> ReadSettings
     let mut number = 1;
     let mut seen = Seen::NOTHING;
     while at < file.len() {
-        let end = bytes::scan::find(file, at, file.len(), b'\n');
+        let end = line_end(file, at);
         if file.len() <= end {
             return refused(number, Fault::NoLineFeed);
         }
