@@ -1,6 +1,8 @@
 // heidezirkel: the program that people run over the proved libraries. Its first argument is a word; bin/heidezirkel has the words `record`, `ignored`, `pcap`, `timeline` and `probe` done
 // by programs of their own (recordings, pictures, probe), so that none waits until what only another needs is proved. Help it prints itself, so that nobody waits for it.
 // The program's last line is its verdict (filing::ending), which bin/heidezirkel turns into the exit status. What concerns misuse goes to standard error.
+#![tactic(auto)]
+
 mod arguments;
 
 use arguments::join;

@@ -1,5 +1,7 @@
 // A log's verdict in words: accepted, with what that says of the radio and where it left off; or the entry at which it is refused, what that entry claims, and what the step
 // gives or which time rule it breaks.
+#![tactic(auto)]
+
 mod ending;
 mod refusal;
 

@@ -1,5 +1,7 @@
 // A damaged log mended: the longest run of entries from its start that the judge accepts is written to a new file. What was kept and dropped is told, and why in the
 // judge's own words.
+#![tactic(auto)]
+
 use filing::arguments::has_arguments;
 use filing::{log_room, write_file};
 use judge_words::tell_judged;

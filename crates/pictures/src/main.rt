@@ -1,5 +1,7 @@
 // pictures: the program behind the words that make a file of a log for other programs to show: `pcap` and `timeline`.
 // Its last line is its verdict, as the other programs' is.
+#![tactic(auto)]
+
 use capture_words::write_capture;
 use filing::arguments::has_arguments;
 use filing::ending::tell_verdict;

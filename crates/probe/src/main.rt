@@ -1,5 +1,7 @@
 // probe: the program behind the word `probe`, by which other programs ask: commands on standard input, a line each, answered by a line each.
 // Its last line is its verdict, as the other programs' is.
+#![tactic(auto)]
+
 mod answer;
 mod input;
 

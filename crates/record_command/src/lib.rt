@@ -1,4 +1,6 @@
 // The commands `record` and `grecord` of the probe: a log's bytes and an entry in numbers, the log's bytes afterwards.
+#![tactic(auto)]
+
 ghost use Rattle.std.specs.Prelude.{◌≤◌, length};
 
 use fields::malformed;

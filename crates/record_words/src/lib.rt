@@ -1,5 +1,7 @@
 // A log made from a script of events: each event goes through the step of a radio with given settings, and what the step gives is recorded. The
 // times of a script are not judged, so that a script can tell of a bad radio too. Each message that is recorded as ignored is told, with the reason.
+#![tactic(auto)]
+
 mod making;
 mod refusal;
 

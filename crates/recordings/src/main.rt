@@ -1,5 +1,7 @@
 // recordings: the program behind the words `record`, which makes a log from a script of events, and `ignored`, which lists the messages of a log that the radio ignored, as `record` does too.
 // Its last line is its verdict, as the other programs' is.
+#![tactic(auto)]
+
 use filing::arguments::has_arguments;
 use filing::ending::tell_verdict;
 use ignored_words::run_ignored;

@@ -1,5 +1,7 @@
 // A script of events, from which a log is made: one line of it, read. A line is TIME EVENT [DATA..], its words parted by one or more spaces; or, before the first
 // event, `call broadcast` or `call group`. What stands from a # on, at the line's start or behind a space, says nothing, and so does a line without words.
+#![tactic(auto)]
+
 mod clock;
 mod composing;
 mod joined;

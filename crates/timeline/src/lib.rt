@@ -1,5 +1,7 @@
 // A log as a picture: time along, the states as bars, entries and messages as marks, the windows in which the joining and the invitation timer end, and a
 // list in words. It shows what the log claims and judges nothing.
+#![tactic(auto)]
+
 mod band;
 mod head;
 mod label;
@@ -16,11 +18,10 @@ use band::{Extent, draw_bands, measure};
 use drawing::write_form;
 use filing::{close_file, create_file};
 use head::{draw_head, top};
-use libc::{STDERR_FILENO, STDOUT_FILENO};
 use log_words::fault::{write_fault, write_version_fault};
 use place::first_place;
 use saying::shown::tell_name;
-use saying::{complain, tell, write_count};
+use saying::{STDERR_FILENO, STDOUT_FILENO, complain, tell, write_count};
 use septets::{Number, read_number};
 use survey::{Survey, survey_log, view_of};
 use text::words::{find, part, same};
