@@ -19,7 +19,7 @@ use text::words::{find, part, same};
 
 // Whether the file could be read, how many bytes of it the buffer holds now, and whether that is the whole file. Where it could
 // not be read, there are none.
-#[derive(Drop)]
+#[derive(Clone, Copy)]
 pub struct Filed {
     pub good: bool,
     pub count: usize,

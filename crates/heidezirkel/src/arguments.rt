@@ -6,7 +6,7 @@ use text::output::{Output, put};
 use text::words::part;
 
 // What joining came to: whether every argument is good, and how many digits there are.
-#[derive(Drop)]
+#[derive(Clone, Copy)]
 pub(crate) struct Joined {
     pub good: bool,
     pub count: usize,

@@ -13,7 +13,7 @@ use septets::{Number, read_number};
 use version::{Known, Table, table_of};
 
 // Behind an entry: its number, its time and the reason (0 where no message is ignored); the context, and the place of the next entry.
-#[derive(Drop)]
+#[derive(Clone, Copy)]
 struct Passed {
     number: usize,
     time: u64,

@@ -11,7 +11,7 @@ use text::words::find;
 const LF: u8 = 10;
 
 // How far the input is read: the first `have` bytes of the line buffer are the start of a line; or a line is being passed over.
-#[derive(Drop)]
+#[derive(Clone, Copy)]
 pub(crate) struct Progress {
     pub have: usize,
     pub passing: bool,
@@ -45,7 +45,7 @@ fn shift(buffer: &mut [u8], from: usize, to: usize)
 }
 
 // How much of a text whole lines take, and the output behind their answers.
-#[derive(Drop)]
+#[derive(Clone, Copy)]
 struct Lines {
     used: usize,
     output: Output,
@@ -83,7 +83,7 @@ fn answer_lines(
 }
 
 // Where the line that is being passed over ends: the place behind its end, or the text's length where it does not end.
-#[derive(Drop)]
+#[derive(Clone, Copy)]
 struct Passed {
     over: bool,
     at: usize,

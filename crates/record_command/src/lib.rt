@@ -16,20 +16,20 @@ use version::Table;
 // The greatest number that a word may have.
 const MOST: u64 = 4294967295;
 
-#[derive(Drop)]
+#[derive(Clone, Copy)]
 struct HappenedWord {
     happened: TimedEvent,
     words: Words,
 }
 
-#[derive(Drop)]
+#[derive(Clone, Copy)]
 struct ClaimsWord {
     claims: Claims,
     words: Words,
 }
 
 // The octets of a message or a reply, as places behind the log's.
-#[derive(Drop)]
+#[derive(Clone, Copy)]
 struct Place {
     start: usize,
     count: usize,

@@ -3,7 +3,7 @@ use crate::{STDERR_FILENO, STDOUT_FILENO, write_text};
 use text::words::part;
 
 // What is told as it is: characters of ASCII that can be printed, or letters beyond ASCII too.
-#[derive(Drop)]
+#[derive(Clone, Copy)]
 pub enum Plain {
     Ascii,
     Letters,

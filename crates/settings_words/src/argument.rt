@@ -30,7 +30,7 @@ pub fn run_settings() -> u8 {
 }
 
 // The settings of a radio; or the verdict, 1 or 2, where there are none.
-#[derive(Drop)]
+#[derive(Clone, Copy)]
 pub struct Fitted {
     pub verdict: u8,
     pub settings: Settings,
@@ -72,7 +72,7 @@ fn settings_at(word: &[u8], place: usize) -> Fitted {
 }
 
 // The same with a log, of which the first `count` bytes of a lent buffer are. The verdict is 2 where one of them is missing.
-#[derive(Drop)]
+#[derive(Clone, Copy)]
 pub struct Ready {
     pub verdict: u8,
     pub settings: Settings,
