@@ -20,9 +20,9 @@ use settings_words::argument::settings_and_log;
 use text::words::part;
 
 // The word `ignored`.
-pub fn run_ignored() -> u8 {
+pub fn run_ignored(rt: &HostRuntime) -> u8 {
     let mut log = log_room();
-    let ready = settings_and_log(b"ignored", &mut log);
+    let ready = settings_and_log(rt, b"ignored", &mut log);
     if ready.verdict != 0 {
         return ready.verdict;
     }

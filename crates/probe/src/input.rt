@@ -4,6 +4,7 @@ ghost use Rattle.std.specs.Prelude.{◌≡◌, ◌+◌, ◌≤◌, length};
 use crate::answer::answer_line;
 use fields::malformed;
 use saying::flush;
+use std::io::Read;
 use text::output::Output;
 use text::words::find;
 
@@ -157,18 +158,23 @@ fn take_lines(
 }
 
 // One read, and the lines that are whole then. The answers are written before the next read waits.
-fn turn(progress: Progress, lines: &mut [u8], octets: &mut [u8], buffer: &mut [u8]) -> Progress
+fn turn(
+    rt: &HostRuntime,
+    progress: Progress,
+    lines: &mut [u8],
+    octets: &mut [u8],
+    buffer: &mut [u8],
+) -> Progress
     requires { progress.have ≤ length lines.old }
     ensures { result.have ≤ length lines.new }
 {
     let have = progress.have;
     let output = progress.output;
     let empty = flush(buffer, output);
-    let got = libc::read(libc::STDIN_FILENO, &mut lines[have..]);
-    if got < 0 {
+    let mut input = rt.stdin();
+    let Ok(count) = input.read(&mut lines[have..]) else {
         return standing(0, false, 2, empty);
-    }
-    let count = io::count(got, &lines[have..]);
+    };
     if count == 0 {
         let ended = standing(have, progress.passing, 0, empty);
         return last_line(ended, &lines[0..have], octets, buffer);
@@ -186,7 +192,12 @@ fn turn(progress: Progress, lines: &mut [u8], octets: &mut [u8], buffer: &mut [u
 }
 
 // A proved loop has to end, and nothing says that the input does: the loop counts its turns down from a number that no run uses up.
-pub(crate) fn stream(lines: &mut [u8], octets: &mut [u8], buffer: &mut [u8]) -> Progress {
+pub(crate) fn stream(
+    rt: &HostRuntime,
+    lines: &mut [u8],
+    octets: &mut [u8],
+    buffer: &mut [u8],
+) -> Progress {
     let mut progress = Progress {
         have: 0,
         passing: false,
@@ -195,7 +206,7 @@ pub(crate) fn stream(lines: &mut [u8], octets: &mut [u8], buffer: &mut [u8]) -> 
     };
     let mut turns = u64::MAX;
     while turns > 0 {
-        progress = turn(progress, lines, octets, buffer);
+        progress = turn(rt, progress, lines, octets, buffer);
         if progress.stop > 0 {
             return progress;
         }

@@ -11,15 +11,15 @@ use input::{line_room, octets_room, stream};
 use saying::{complain, flush};
 
 // Answers the verdict.
-fn run_probe() -> u8 {
-    if argument_count() != 2 {
+fn run_probe(rt: &HostRuntime) -> u8 {
+    if argument_count(rt) != 2 {
         complain(b"heidezirkel probe: takes no arguments; commands come on standard input\n");
         return 2;
     }
     let mut lines = line_room();
     let mut octets = octets_room();
     let mut buffer = io::large_buffer();
-    let end = stream(&mut lines, &mut octets, &mut buffer);
+    let end = stream(rt, &mut lines, &mut octets, &mut buffer);
     let output = end.output;
     flush(&buffer, output);
     if end.stop == 1 {
@@ -29,6 +29,6 @@ fn run_probe() -> u8 {
     2
 }
 
-fn main() {
-    tell_verdict(run_probe());
+fn main(rt: HostRuntime) {
+    tell_verdict(&rt, run_probe(&rt));
 }
