@@ -19,7 +19,16 @@ pub fn tell_verdict(rt: &HostRuntime, verdict: u8) {
 // Nobody looks at what each write of an answer came to, but the number of the last error does not go away by what goes well: it is 0 since the last argument was read unless
 // something could not be written since. A reader that has gone has what it wanted.
 fn all_told(error: Error) -> bool {
-    (error.raw_os_error() == Some(0)) | (error.kind() == ErrorKind::BrokenPipe)
+    (error.raw_os_error() == Some(0)) | is_reader_gone(error)
+}
+
+fn is_reader_gone(error: Error) -> bool {
+    error.kind() == ErrorKind::BrokenPipe
+}
+
+// Whether the last error is that nobody reads what is told. Nothing stops a program then but the program itself.
+pub fn has_reader_gone() -> bool {
+    is_reader_gone(last_error())
 }
 
 fn verdict_descriptor(rt: &HostRuntime) -> i32 {

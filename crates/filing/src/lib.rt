@@ -7,7 +7,7 @@ ghost use Rattle.std.specs.Prelude.{◌≡◌, ◌≤◌, length, IfOk};
 pub mod arguments;
 pub mod ending;
 
-use arguments::argument;
+use arguments::{argument, has_option, verdict_on_3};
 use saying::complain;
 use saying::shown::complain_name;
 use std::fs::{File, OpenOptions, remove_file};
@@ -54,12 +54,29 @@ fn read_path(rt: &HostRuntime, path: &[u8], buffer: &mut [u8]) -> Result<Filed>
     fill(&mut file, buffer)
 }
 
-// The library takes a path as text.
 fn open_file(rt: &HostRuntime, path: &[u8]) -> Result<File> {
     match from_utf8(path) {
         Ok(name) => File::open(rt, name),
-        Err(_) => Err(Error::from(ErrorKind::InvalidData)),
+        Err(_) => open_handed(rt, path),
     }
+}
+
+// The library takes a name as text, so a file whose name is none can't be opened here. bin/heidezirkel opens it: descriptor 5 is the first argument behind the word, 6 the
+// second, 7 the third. That it is the wrapper that called is known by where the verdict goes.
+fn open_handed(rt: &HostRuntime, path: &[u8]) -> Result<File> {
+    if !verdict_on_3(rt) {
+        return Err(Error::from(ErrorKind::InvalidData));
+    }
+    if has_option(rt, 2, path) {
+        return File::open(rt, "/dev/fd/5");
+    }
+    if has_option(rt, 3, path) {
+        return File::open(rt, "/dev/fd/6");
+    }
+    if has_option(rt, 4, path) {
+        return File::open(rt, "/dev/fd/7");
+    }
+    Err(Error::from(ErrorKind::InvalidData))
 }
 
 // Reads the file that an argument of the word names.
@@ -108,7 +125,7 @@ fn complain_start(word: &[u8]) {
     complain(b": ");
 }
 
-const NOT_UTF8: &[u8] = b"this name is not UTF-8, and no file of such a name can be opened\n";
+const NOT_UTF8: &[u8] = b"this name is not UTF-8, and no such file can be opened or made\n";
 
 // Why the file can't be read.
 fn complain_of(word: &[u8], path: &[u8], error: Error) {

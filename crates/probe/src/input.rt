@@ -3,6 +3,7 @@ ghost use Rattle.std.specs.Prelude.{◌≡◌, ◌+◌, ◌≤◌, length};
 
 use crate::answer::answer_line;
 use fields::malformed;
+use filing::ending::has_reader_gone;
 use saying::flush;
 use std::io::Read;
 use text::output::Output;
@@ -16,7 +17,7 @@ const LF: u8 = 10;
 pub(crate) struct Progress {
     pub have: usize,
     pub passing: bool,
-    // 0: going on, 1: the input ended, 2: it could not be read.
+    // 0: going on, 1: the input ended, 2: it could not be read, 3: nobody reads the answers any more.
     pub stop: u8,
     pub output: Output,
 }
@@ -171,6 +172,9 @@ fn turn(
     let have = progress.have;
     let output = progress.output;
     let empty = flush(buffer, output);
+    if has_reader_gone() {
+        return standing(0, false, 3, empty);
+    }
     let mut input = rt.stdin();
     let Ok(count) = input.read(&mut lines[have..]) else {
         return standing(0, false, 2, empty);

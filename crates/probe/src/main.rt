@@ -6,9 +6,10 @@ mod answer;
 mod input;
 
 use filing::arguments::argument_count;
-use filing::ending::tell_verdict;
+use filing::ending::{has_reader_gone, tell_verdict};
 use input::{line_room, octets_room, stream};
 use saying::{complain, flush};
+use std::process::ExitCode;
 
 // Answers the verdict.
 fn run_probe(rt: &HostRuntime) -> u8 {
@@ -25,10 +26,18 @@ fn run_probe(rt: &HostRuntime) -> u8 {
     if end.stop == 1 {
         return 0;
     }
-    complain(b"heidezirkel probe: standard input can't be read\n");
+    if end.stop != 3 {
+        complain(b"heidezirkel probe: standard input can't be read\n");
+    }
     2
 }
 
-fn main(rt: HostRuntime) {
-    tell_verdict(&rt, run_probe(&rt));
+// Without a reader there is no verdict: the status is that of a program that a broken pipe ends.
+fn main(rt: HostRuntime) -> ExitCode {
+    let verdict = run_probe(&rt);
+    if has_reader_gone() {
+        return ExitCode::from(141);
+    }
+    tell_verdict(&rt, verdict);
+    ExitCode::SUCCESS
 }
