@@ -3,7 +3,7 @@ use crate::reason::tell_particulars;
 use codes::protocol::Protocol;
 use context::{Context, state_number};
 use fields::{fault_number, octet_at};
-use log::{Found, read_entry};
+use log_entry::{Found, read_entry};
 use log_words::entry::{tell_time, write_reason, write_state_name};
 use message::{Own, Reading};
 use replay::{message_of, step_entry};
