@@ -85,7 +85,12 @@ pub fn settings_and_log(rt: &HostRuntime, word: &[u8], log: &mut [u8]) -> Ready 
 }
 
 // The same behind so many options.
-pub fn settings_and_log_behind(rt: &HostRuntime, word: &[u8], options: usize, log: &mut [u8]) -> Ready {
+pub fn settings_and_log_behind(
+    rt: &HostRuntime,
+    word: &[u8],
+    options: usize,
+    log: &mut [u8],
+) -> Ready {
     let count = std::num::wrapping_add_usize(options, 2);
     if !has_arguments(rt, count, word, b"two arguments, a settings file and a log") {
         return stopped();
