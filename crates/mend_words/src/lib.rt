@@ -49,13 +49,7 @@ fn mend_log(rt: &HostRuntime, settings: Settings, log: &[u8]) -> u8 {
 }
 
 // Writes the copy to the file that the third argument names, and answers the verdict: a copy that is written is fine, whatever was dropped.
-fn file_copy(
-    rt: &HostRuntime,
-    settings: Settings,
-    report: Report,
-    copy: &[u8],
-    log: &[u8],
-) -> u8 {
+fn file_copy(rt: &HostRuntime, settings: Settings, report: Report, copy: &[u8], log: &[u8]) -> u8 {
     let mut name = io::buffer();
     let length = argument(rt, 4, &mut name);
     if !write_file(rt, b"mend", part(&name, 0, length), copy) {

@@ -52,14 +52,7 @@ fn refuse_version(log: &[u8]) -> u8 {
     1
 }
 
-fn draw_log(
-    rt: &HostRuntime,
-    table: Table,
-    log: &[u8],
-    at: usize,
-    name: &[u8],
-    path: &[u8],
-) -> u8 {
+fn draw_log(rt: &HostRuntime, table: Table, log: &[u8], at: usize, name: &[u8], path: &[u8]) -> u8 {
     let found = survey_log(table, log, at);
     let Some(file) = create_file(rt, b"timeline", path) else {
         return 2;
