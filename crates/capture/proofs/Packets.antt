@@ -1,9 +1,9 @@
 -- Laws of a packet: its three parts, one behind the other, are put behind an output as one.
 use Prim.Native.Nat.{ℕ, ◌+◌, ◌≤◌, ◌<◌}
-use mathlib.Core.Path.{◌≡◌, refl, sym, ap, ◌∙◌}
+use mathlib.Core.Path.{◌≡◌, refl}
 use mathlib.Core.List.{List, ◌++◌}
 use native.Mathlib.Omega.{arith}
-use lib.ListN.{length, take, length-append}
+use lib.ListN.{length, length-append}
 use lib.Seq.{sets, take-length}
 use Rattle.octets.specs.Run.{part}
 use Rattle.octets.proofs.Stores.{sets-append}

@@ -1,5 +1,7 @@
 // A capture file that Wireshark opens with no set-up: the classic pcap form, its numbers low octet first, each packet an exported PDU
 // (link type 252) whose tags name the dissector of GSM 04.07's messages and say which way the message went.
+#![tactic(auto)]
+
 ghost use Rattle.std.specs.Prelude.{◌≡◌, ◌++◌, ◌+◌, length};
 ghost use Rattle.text.specs.Output.{behind, put_leaves};
 ghost use Rattle.capture.specs.Capture.{capture_header, start_packet, packet_header, tags_of, packet_of};

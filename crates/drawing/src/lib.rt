@@ -1,4 +1,6 @@
 // Pictures as SVG, written element by element to a descriptor. A class names how an element looks; the style at the picture's head says what that is.
+#![tactic(auto)]
+
 use fields::octet_at;
 use saying::{write_long, write_text};
 use text::words::{find, part};

@@ -1,5 +1,7 @@
 // What the commands of the probe and the words for people share: the typed words of a command line, the answer to a line that is no command, an octet by its
 // place, the number of a fault, and the messages of a reply.
+#![tactic(auto)]
+
 pub mod reply_messages;
 pub mod words;
 

@@ -7,7 +7,7 @@ use octets::Run;
 use text::words::part;
 
 // The first message, and what stands behind it: no octets where it is all.
-#[derive(Drop)]
+#[derive(Clone, Copy)]
 pub struct Messages {
     pub first: Run,
     pub behind: Run,

@@ -8,32 +8,32 @@ use text::decimal::number_of;
 use text::hex::read_hex;
 use text::words::{Words, next_word, part, same};
 
-#[derive(Drop)]
+#[derive(Clone, Copy)]
 pub struct NumberWord {
     pub value: u64,
     pub words: Words,
 }
 
-#[derive(Drop)]
+#[derive(Clone, Copy)]
 pub struct SmallWord {
     pub value: u8,
     pub words: Words,
 }
 
-#[derive(Drop)]
+#[derive(Clone, Copy)]
 pub struct HalfWord {
     pub half: Half,
     pub words: Words,
 }
 
 // Octets that were put over the start of a lent buffer or behind a place in it.
-#[derive(Drop)]
+#[derive(Clone, Copy)]
 pub struct OctetsWord {
     pub count: usize,
     pub words: Words,
 }
 
-#[derive(Drop)]
+#[derive(Clone, Copy)]
 pub struct ReferenceWord {
     pub reference: Reference,
     pub words: Words,

@@ -1,43 +1,72 @@
 // The arguments of a word.
+ghost use Rattle.std.specs.Prelude.{◌≤◌, length};
+
 use saying::complain;
 use saying::shown::tell_name;
+use std::env::{Env, FillError};
 use text::words::{part, same};
+
+// Puts an argument at the start of a lent buffer, and answers how long it is. One that is missing or longer than the buffer has no length.
+pub fn argument(rt: &HostRuntime, place: usize, buffer: &mut [u8]) -> usize
+    ensures { result ≤ length buffer.new }
+{
+    match rt.arg(place, buffer) {
+        Ok(count) => count,
+        Err(_) => 0,
+    }
+}
+
+fn is_missing(rt: &HostRuntime, place: usize) -> bool {
+    let mut first = [0u8; 1];
+    matches!(rt.arg(place, &mut first), Err(FillError::NotPresent))
+}
+
+// How many arguments there are in all.
+fn count_all(rt: &HostRuntime) -> usize {
+    for place in 0..usize::MAX {
+        if is_missing(rt, place) {
+            return place;
+        }
+    }
+    usize::MAX
+}
 
 // Whether the verdict is to go to descriptor 3. bin/heidezirkel asks for it by a last argument; nobody gives that by accident, so nothing that is open there for something
 // else is written to.
-pub(crate) fn verdict_on_3() -> bool {
+pub(crate) fn verdict_on_3(rt: &HostRuntime) -> bool {
     has_option(
-        std::num::wrapping_sub_usize(os::arg_count(), 1),
+        rt,
+        std::num::wrapping_sub_usize(count_all(rt), 1),
         b"--verdict-on-3",
     )
 }
 
 // How many arguments there are, the program's own name and the word among them, but not the one that says where the verdict goes.
-pub fn argument_count() -> usize {
-    let count = os::arg_count();
-    if verdict_on_3() {
+pub fn argument_count(rt: &HostRuntime) -> usize {
+    let count = count_all(rt);
+    if verdict_on_3(rt) {
         return std::num::wrapping_sub_usize(count, 1);
     }
     count
 }
 
 // Whether the argument at this place is that option.
-pub fn has_option(place: usize, option: &[u8]) -> bool {
-    let mut argument = io::buffer();
-    let count = os::arg(place, &mut argument);
-    same(part(&argument, 0, count), option)
+pub fn has_option(rt: &HostRuntime, place: usize, option: &[u8]) -> bool {
+    let mut text = io::buffer();
+    let count = argument(rt, place, &mut text);
+    same(part(&text, 0, count), option)
 }
 
 // Tells the file that the argument at this place names.
-pub fn tell_argument(place: usize) {
-    let mut argument = io::buffer();
-    let count = os::arg(place, &mut argument);
-    tell_name(part(&argument, 0, count));
+pub fn tell_argument(rt: &HostRuntime, place: usize) {
+    let mut name = io::buffer();
+    let count = argument(rt, place, &mut name);
+    tell_name(part(&name, 0, count));
 }
 
 // Whether the word has so many arguments; a complaint, which says what it takes, where it has not.
-pub fn has_arguments(count: usize, word: &[u8], takes: &[u8]) -> bool {
-    if argument_count() == std::num::wrapping_add_usize(count, 2) {
+pub fn has_arguments(rt: &HostRuntime, count: usize, word: &[u8], takes: &[u8]) -> bool {
+    if argument_count(rt) == std::num::wrapping_add_usize(count, 2) {
         return true;
     }
     complain(b"heidezirkel ");

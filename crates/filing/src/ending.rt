@@ -1,12 +1,13 @@
 // How a program ends. It has no exit status: its last line is its verdict, `verdict 0` fine, `verdict 1` refused, `verdict 2` could not run. It stands on standard output, or on
 // descriptor 3 where that is asked for, as bin/heidezirkel does, which makes the exit status of it: then nothing stands between what is told and its reader.
 use crate::arguments::verdict_on_3;
-use libc::STDOUT_FILENO;
-use saying::{complain, write_long, write_text};
+use saying::{STDOUT_FILENO, complain, write_long, write_text};
+use std::io::{Error, ErrorKind};
+use std_io::io::last_error;
 
-pub fn tell_verdict(verdict: u8) {
-    let reached = all_told(os::errno());
-    let descriptor = verdict_descriptor();
+pub fn tell_verdict(rt: &HostRuntime, verdict: u8) {
+    let reached = all_told(last_error());
+    let descriptor = verdict_descriptor(rt);
     if reached | (verdict == 2) {
         write_verdict(descriptor, verdict);
         return;
@@ -17,12 +18,21 @@ pub fn tell_verdict(verdict: u8) {
 
 // Nobody looks at what each write of an answer came to, but the number of the last error does not go away by what goes well: it is 0 since the last argument was read unless
 // something could not be written since. A reader that has gone has what it wanted.
-fn all_told(error: i32) -> bool {
-    (error == 0) | (error == libc::EPIPE)
+fn all_told(error: Error) -> bool {
+    (error.raw_os_error() == Some(0)) | is_reader_gone(error)
 }
 
-fn verdict_descriptor() -> i32 {
-    if verdict_on_3() {
+fn is_reader_gone(error: Error) -> bool {
+    error.kind() == ErrorKind::BrokenPipe
+}
+
+// Whether the last error is that nobody reads what is told. Nothing stops a program then but the program itself.
+pub fn has_reader_gone() -> bool {
+    is_reader_gone(last_error())
+}
+
+fn verdict_descriptor(rt: &HostRuntime) -> i32 {
+    if verdict_on_3(rt) {
         return 3;
     }
     STDOUT_FILENO

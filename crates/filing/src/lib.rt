@@ -1,18 +1,25 @@
 // Whole files, read into a lent buffer, and new files; how many arguments a word has; how a program ends. What stands in the way is told on standard error, with the
 // program's word and the file's path.
-ghost use Rattle.std.specs.Prelude.{◌≡◌, ◌≤◌, length};
+#![tactic(auto)]
+
+ghost use Rattle.std.specs.Prelude.{◌≡◌, ◌≤◌, length, IfOk};
 
 pub mod arguments;
 pub mod ending;
 
+use arguments::{argument, has_option, verdict_on_3};
 use saying::complain;
 use saying::shown::complain_name;
+use std::fs::{File, OpenOptions, remove_file};
+use std::io::{Error, ErrorKind, Read, Result, Write};
+use std::os::fd::AsRawFd;
+use std::str::from_utf8;
 use text::output::{Output, put};
-use text::words::{part, same};
+use text::words::{find, part, same};
 
 // Whether the file could be read, how many bytes of it the buffer holds now, and whether that is the whole file. Where it could
 // not be read, there are none.
-#[derive(Drop)]
+#[derive(Clone, Copy)]
 pub struct Filed {
     pub good: bool,
     pub count: usize,
@@ -20,87 +27,95 @@ pub struct Filed {
 }
 
 // Reads the file from its start, as much as the buffer holds; `-` is standard input. `word` is the program's word that wants it, as in `heidezirkel show`.
-pub fn read_file(word: &[u8], path: &[u8], buffer: &mut [u8]) -> Filed
+pub fn read_file(rt: &HostRuntime, word: &[u8], path: &[u8], buffer: &mut [u8]) -> Filed
     ensures { result.count ≤ length buffer.new }
 {
-    let descriptor = open_file(path);
-    if descriptor < 0 {
-        complain_of(word, path, os::errno());
-        return Filed {
-            good: false,
-            count: 0,
-            whole: false,
-        };
-    }
-    let filed = fill(descriptor, buffer);
-    if !filed.good {
-        complain_of(word, path, os::errno());
-    }
-    if descriptor != libc::STDIN_FILENO {
-        libc::close(descriptor);
-    }
-    filed
-}
-
-fn open_file(path: &[u8]) -> i32 {
-    if same(path, b"-") {
-        return libc::STDIN_FILENO;
-    }
-    os::open_read(path)
-}
-
-// Reads the file that an argument of the word names.
-pub fn read_argument(word: &[u8], place: usize, buffer: &mut [u8]) -> Filed {
-    let mut name = io::buffer();
-    let count = os::arg(place, &mut name);
-    read_file(word, part(&name, 0, count), buffer)
-}
-
-// Reads until the file ends or the buffer is full.
-fn fill(descriptor: i32, buffer: &mut [u8]) -> Filed
-    ensures { result.count ≤ length buffer.new }
-{
-    let mut have = 0;
-    while have < buffer.len() {
-        let got = libc::read(descriptor, &mut buffer[have..]);
-        if got < 0 {
-            return Filed {
+    match read_path(rt, path, buffer) {
+        Ok(filed) => filed,
+        Err(error) => {
+            complain_of(word, path, error);
+            Filed {
                 good: false,
                 count: 0,
                 whole: false,
-            };
+            }
         }
-        let count = io::count(got, &buffer[have..]);
+    }
+}
+
+fn read_path(rt: &HostRuntime, path: &[u8], buffer: &mut [u8]) -> Result<Filed>
+    ensures { IfOk result (λ filed. filed.count ≤ length buffer.new) }
+{
+    if same(path, b"-") {
+        let mut input = rt.stdin();
+        return fill(&mut input, buffer);
+    }
+    let mut file = open_file(rt, path)?;
+    fill(&mut file, buffer)
+}
+
+fn open_file(rt: &HostRuntime, path: &[u8]) -> Result<File> {
+    match from_utf8(path) {
+        Ok(name) => File::open(rt, name),
+        Err(_) => open_handed(rt, path),
+    }
+}
+
+// The library takes a name as text, so a file whose name is none can't be opened here. bin/heidezirkel opens it: descriptor 5 is the first argument behind the word, 6 the
+// second, 7 the third. That it is the wrapper that called is known by where the verdict goes.
+fn open_handed(rt: &HostRuntime, path: &[u8]) -> Result<File> {
+    if !verdict_on_3(rt) {
+        return Err(Error::from(ErrorKind::InvalidData));
+    }
+    if has_option(rt, 2, path) {
+        return File::open(rt, "/dev/fd/5");
+    }
+    if has_option(rt, 3, path) {
+        return File::open(rt, "/dev/fd/6");
+    }
+    if has_option(rt, 4, path) {
+        return File::open(rt, "/dev/fd/7");
+    }
+    Err(Error::from(ErrorKind::InvalidData))
+}
+
+// Reads the file that an argument of the word names.
+pub fn read_argument(rt: &HostRuntime, word: &[u8], place: usize, buffer: &mut [u8]) -> Filed {
+    let mut name = io::buffer();
+    let count = argument(rt, place, &mut name);
+    read_file(rt, word, part(&name, 0, count), buffer)
+}
+
+// Reads until the file ends or the buffer is full.
+fn fill<R: Read>(reader: &mut R, buffer: &mut [u8]) -> Result<Filed>
+    ensures { IfOk result (λ filed. filed.count ≤ length buffer.new) }
+{
+    let mut have = 0;
+    while have < buffer.len() {
+        let count = reader.read(&mut buffer[have..])?;
         if count == 0 {
-            return Filed {
+            return Ok(Filed {
                 good: true,
                 count: have,
                 whole: true,
-            };
+            });
         }
         have += count;
     }
-    at_end(descriptor, have)
+    at_end(reader, have)
 }
 
 // The buffer is full: whether the file ends here shows when one byte more is asked for.
-fn at_end(descriptor: i32, have: usize) -> Filed
-    ensures { result.count ≤ have }
+fn at_end<R: Read>(reader: &mut R, have: usize) -> Result<Filed>
+    ensures { IfOk result (λ filed. filed.count ≤ have) }
 {
     let mut one = [0u8; 1];
-    let got = libc::read(descriptor, &mut one);
-    if got < 0 {
-        return Filed {
-            good: false,
-            count: 0,
-            whole: false,
-        };
-    }
-    Filed {
+    let count = reader.read(&mut one)?;
+    Ok(Filed {
         good: true,
         count: have,
-        whole: got == 0,
-    }
+        whole: count == 0,
+    })
 }
 
 // What every complaint starts with.
@@ -110,52 +125,45 @@ fn complain_start(word: &[u8]) {
     complain(b": ");
 }
 
-// Why the file can't be read, by the number of the error.
-fn complain_of(word: &[u8], path: &[u8], error: i32) {
+const NOT_UTF8: &[u8] = b"this name is not UTF-8, and no such file can be opened or made\n";
+
+// Why the file can't be read.
+fn complain_of(word: &[u8], path: &[u8], error: Error) {
     complain_start(word);
-    if error == libc::ENOENT {
-        complain_why(path, b"there is no such file\n");
-        return;
+    match error.kind() {
+        ErrorKind::NotFound => complain_why(path, b"there is no such file\n"),
+        ErrorKind::IsADirectory => {
+            complain_why(path, b"this is a folder, and a file is wanted\n")
+        }
+        ErrorKind::PermissionDenied => {
+            complain_why(path, b"this file may not be read: permission denied\n")
+        }
+        ErrorKind::InvalidData => complain_why(path, NOT_UTF8),
+        _ => complain_error(path, error),
     }
-    if error == libc::EISDIR {
-        complain_why(path, b"this is a folder, and a file is wanted\n");
-        return;
-    }
-    if error == libc::EACCES {
-        complain_why(path, b"this file may not be read: permission denied\n");
-        return;
-    }
-    complain_error(path);
 }
 
 // Why the file can't be made.
-fn complain_of_making(word: &[u8], path: &[u8], error: i32) {
+fn complain_of_making(rt: &HostRuntime, word: &[u8], path: &[u8], error: Error) {
     complain_start(word);
-    if error == libc::EEXIST {
-        complain_of_standing(path);
-        return;
-    }
-    if error == libc::EISDIR {
-        complain_of_folder(path);
-        return;
-    }
-    if error == libc::ENOENT {
-        complain_why(path, b"there is no such folder to make the file in\n");
-        return;
-    }
-    if error == libc::EACCES {
-        complain_why(
+    match error.kind() {
+        ErrorKind::AlreadyExists => complain_of_standing(rt, path),
+        ErrorKind::IsADirectory => complain_of_folder(path),
+        ErrorKind::NotFound => {
+            complain_why(path, b"there is no such folder to make the file in\n")
+        }
+        ErrorKind::PermissionDenied => complain_why(
             path,
             b"no file may be made in this folder: permission denied\n",
-        );
-        return;
+        ),
+        ErrorKind::InvalidData => complain_why(path, NOT_UTF8),
+        _ => complain_error(path, error),
     }
-    complain_error(path);
 }
 
 // Something of this name is there.
-fn complain_of_standing(path: &[u8]) {
-    if is_folder(path) {
+fn complain_of_standing(rt: &HostRuntime, path: &[u8]) {
+    if is_folder(rt, path) {
         complain_of_folder(path);
         return;
     }
@@ -173,17 +181,12 @@ fn complain_of_folder(path: &[u8]) {
 }
 
 // A folder has itself in it, by the name of one dot, and nothing else can be opened in this way.
-fn is_folder(path: &[u8]) -> bool {
+fn is_folder(rt: &HostRuntime, path: &[u8]) -> bool {
     let mut itself = io::buffer();
     let behind = put(&mut itself, Output { at: 0 }, path);
     let end = put(&mut itself, behind, b"/.");
     let count = end.at;
-    let descriptor = os::open_read(part(&itself, 0, count));
-    if descriptor < 0 {
-        return false;
-    }
-    libc::close(descriptor);
-    true
+    open_file(rt, part(&itself, 0, count)).is_ok()
 }
 
 fn complain_why(path: &[u8], why: &[u8]) {
@@ -193,24 +196,55 @@ fn complain_why(path: &[u8], why: &[u8]) {
 }
 
 // Any other error, in the system's words.
-fn complain_error(path: &[u8]) {
+fn complain_error(path: &[u8], error: Error) {
+    let mut words = [0u8; 256];
+    put_words(&mut words, error);
     complain_name(path);
-    os::fail(b"");
+    complain(b": ");
+    complain(part(&words, 0, words_before_number(&words)));
+    complain(b"\n");
 }
 
-// Makes a file that is not there yet, and answers a descriptor to write to, or -1. A file that is there stays as it is.
-pub fn create_file(word: &[u8], path: &[u8]) -> i32 {
-    let descriptor = os::create(path);
-    if descriptor < 0 {
-        complain_of_making(word, path, os::errno());
+// Puts an error's words at the start of a lent buffer that holds zeros.
+fn put_words(words: &mut [u8], error: Error) {
+    let mut rest = words;
+    let _ = write!(rest, "{error}");
+}
+
+// How long the words are without the number, as ` (os error 5)`, that the library puts behind them.
+fn words_before_number(words: &[u8]) -> usize {
+    let number = find(words, b'(');
+    if number < words.len() {
+        return std::num::wrapping_sub_usize(number, 1);
     }
-    descriptor
+    find(words, 0)
+}
+
+// Makes a file that is not there yet. A file that is there stays as it is.
+pub fn create_file(rt: &HostRuntime, word: &[u8], path: &[u8]) -> Option<File> {
+    match open_new(rt, path) {
+        Ok(file) => Some(file),
+        Err(error) => {
+            complain_of_making(rt, word, path, error);
+            None
+        }
+    }
+}
+
+fn open_new(rt: &HostRuntime, path: &[u8]) -> Result<File> {
+    match from_utf8(path) {
+        Ok(name) => OpenOptions::new()
+            .write(true)
+            .create_new(true)
+            .open(rt, name),
+        Err(_) => Err(Error::from(ErrorKind::InvalidData)),
+    }
 }
 
 // Closes a file that was made. Where something of it could not be written (`whole` is false), the file is taken away again: half a file is worse than none.
-pub fn close_file(word: &[u8], path: &[u8], descriptor: i32, whole: bool) -> bool {
-    let closed = libc::close(descriptor) == 0;
-    if whole & closed {
+pub fn close_file(rt: &HostRuntime, word: &[u8], path: &[u8], file: File, whole: bool) -> bool {
+    let kept = file.sync_all().is_ok();
+    if whole & kept {
         return true;
     }
     complain_start(word);
@@ -218,18 +252,23 @@ pub fn close_file(word: &[u8], path: &[u8], descriptor: i32, whole: bool) -> boo
         path,
         b"the file could not be written whole, and is taken away again: is the disk full?\n",
     );
-    os::unlink(path);
+    remove(rt, path);
     false
 }
 
-// Makes a new file with these octets, whole or not at all.
-pub fn write_file(word: &[u8], path: &[u8], octets: &[u8]) -> bool {
-    let descriptor = create_file(word, path);
-    if descriptor < 0 {
-        return false;
+fn remove(rt: &HostRuntime, path: &[u8]) {
+    if let Ok(name) = from_utf8(path) {
+        let _ = remove_file(rt, name);
     }
-    let whole = io::write_all(descriptor, octets);
-    close_file(word, path, descriptor, whole)
+}
+
+// Makes a new file with these octets, whole or not at all.
+pub fn write_file(rt: &HostRuntime, word: &[u8], path: &[u8], octets: &[u8]) -> bool {
+    let Some(file) = create_file(rt, word, path) else {
+        return false;
+    };
+    let whole = io::write_all(file.as_raw_fd(), octets);
+    close_file(rt, word, path, file, whole)
 }
 
 // A byte more than a log may have, so that a longer one is told.

@@ -10,6 +10,8 @@
 //   K          a word that was looked up before, and stands in no record
 //   .          an octet that no word says
 // Any other character is no word in a command, and stands for itself in an answer.
+#![tactic(auto)]
+
 ghost use Rattle.std.specs.Prelude.{◌≤◌};
 
 use fields::octet_at;

@@ -1,12 +1,13 @@
 // The arguments of a word: hexadecimal words that are joined into one text.
 use filing::arguments::argument_count;
 use saying::{complain, complain_number};
+use std::env::Env;
 use text::hex::digits_before;
 use text::output::{Output, put};
 use text::words::part;
 
 // What joining came to: whether every argument is good, and how many digits there are.
-#[derive(Drop)]
+#[derive(Clone, Copy)]
 pub(crate) struct Joined {
     pub good: bool,
     pub count: usize,
@@ -27,17 +28,16 @@ fn complain_of_digit(place: usize, good: usize) {
 }
 
 // Puts the argument at `place` behind the digits.
-fn join_one(digits: &mut [u8], output: Output, place: usize) -> Joined {
+fn join_one(rt: &HostRuntime, digits: &mut [u8], output: Output, place: usize) -> Joined {
     let none = Joined {
         good: false,
         count: 0,
     };
     let mut argument = io::large_buffer();
-    let count = os::arg(place, &mut argument);
-    if os::errno() != 0 {
+    let Ok(count) = rt.arg(place, &mut argument) else {
         complain_of(place, b" has more than 65536 characters\n");
         return none;
-    }
+    };
     let good = digits_before(part(&argument, 0, count), true);
     if good < count {
         complain_of_digit(place, good);
@@ -57,13 +57,13 @@ fn join_one(digits: &mut [u8], output: Output, place: usize) -> Joined {
 }
 
 // Joins the arguments from the second on.
-fn join_all(digits: &mut [u8]) -> Joined {
-    let last = argument_count();
+fn join_all(rt: &HostRuntime, digits: &mut [u8]) -> Joined {
+    let last = argument_count(rt);
     let mut count = 0;
     let mut place = 2;
     while place < last {
         let output = Output { at: count };
-        let one = join_one(digits, output, place);
+        let one = join_one(rt, digits, output, place);
         if !one.good {
             return one;
         }
@@ -73,8 +73,8 @@ fn join_all(digits: &mut [u8]) -> Joined {
     Joined { good: true, count }
 }
 
-pub(crate) fn join(digits: &mut [u8]) -> Joined {
-    let joined = join_all(digits);
+pub(crate) fn join(rt: &HostRuntime, digits: &mut [u8]) -> Joined {
+    let joined = join_all(rt, digits);
     let count = joined.count;
     if count % 2 == 1 {
         complain(b"heidezirkel message: an odd number of digits: the last octet is half there\n");

@@ -1,10 +1,12 @@
 // heidezirkel: the program that people run over the proved libraries. Its first argument is a word; bin/heidezirkel has the words `record`, `ignored`, `pcap`, `timeline` and `probe` done
 // by programs of their own (recordings, pictures, probe), so that none waits until what only another needs is proved. Help it prints itself, so that nobody waits for it.
 // The program's last line is its verdict (filing::ending), which bin/heidezirkel turns into the exit status. What concerns misuse goes to standard error.
+#![tactic(auto)]
+
 mod arguments;
 
 use arguments::join;
-use filing::arguments::argument_count;
+use filing::arguments::{argument, argument_count};
 use filing::ending::tell_verdict;
 use judge_words::run_judge;
 use log_words::show::run_show;
@@ -16,13 +18,13 @@ use settings_words::argument::run_settings;
 use text::hex::read_hex;
 use text::words::{part, same};
 
-fn run_message() -> u8 {
-    if argument_count() < 3 {
+fn run_message(rt: &HostRuntime) -> u8 {
+    if argument_count(rt) < 3 {
         complain(b"heidezirkel message: the message is missing: give its octets in hexadecimal\n");
         return 2;
     }
     let mut digits = io::large_buffer();
-    let joined = join(&mut digits);
+    let joined = join(rt, &mut digits);
     if !joined.good {
         return 2;
     }
@@ -33,28 +35,28 @@ fn run_message() -> u8 {
     tell_apart(part(&octets, 0, total))
 }
 
-fn run(word: &[u8]) -> u8 {
+fn run(rt: &HostRuntime, word: &[u8]) -> u8 {
     if same(word, b"message") {
-        return run_message();
+        return run_message(rt);
     }
     if same(word, b"judge") {
-        return run_judge();
+        return run_judge(rt);
     }
     if same(word, b"mend") {
-        return run_mend();
+        return run_mend(rt);
     }
     if same(word, b"show") {
-        return run_show();
+        return run_show(rt);
     }
     if same(word, b"settings") {
-        return run_settings();
+        return run_settings(rt);
     }
     complain_unknown(word);
     2
 }
 
-fn main() {
-    let mut argument = io::buffer();
-    let count = os::arg(1, &mut argument);
-    tell_verdict(run(part(&argument, 0, count)));
+fn main(rt: HostRuntime) {
+    let mut text = io::buffer();
+    let count = argument(&rt, 1, &mut text);
+    tell_verdict(&rt, run(&rt, part(&text, 0, count)));
 }

@@ -1,5 +1,7 @@
 // The messages that a radio ignored, and why: a log is walked through as the judge does, and what the step says of each entry up to there is listed. The walk keeps no
 // reasons, so the listing takes each of these entries through its step once more.
+#![tactic(auto)]
+
 mod listing;
 mod reason;
 
@@ -7,21 +9,20 @@ ghost use Rattle.std.specs.Prelude.{◌<◌};
 
 use filing::log_room;
 use judge_walk::{End, walk};
-use libc::STDOUT_FILENO;
 pub use listing::list;
 use log_words::entry::write_reason;
 use log_words::tell_version;
 use message::Own;
 use replay::own_of;
-use saying::{tell, tell_count, tell_place};
+use saying::{STDOUT_FILENO, tell, tell_count, tell_place};
 use settings_values::Settings;
 use settings_words::argument::settings_and_log;
 use text::words::part;
 
 // The word `ignored`.
-pub fn run_ignored() -> u8 {
+pub fn run_ignored(rt: &HostRuntime) -> u8 {
     let mut log = log_room();
-    let ready = settings_and_log(b"ignored", &mut log);
+    let ready = settings_and_log(rt, b"ignored", &mut log);
     if ready.verdict != 0 {
         return ready.verdict;
     }

@@ -3,18 +3,17 @@ use crate::reason::tell_particulars;
 use codes::protocol::Protocol;
 use context::{Context, state_number};
 use fields::{fault_number, octet_at};
-use libc::STDOUT_FILENO;
 use log_entry::{Found, read_entry};
 use log_words::entry::{tell_time, write_reason, write_state_name};
 use message::{Own, Reading};
 use replay::{message_of, step_entry};
 use saying::describe::write_kind;
-use saying::{tell, tell_count, tell_octet, tell_place};
+use saying::{STDOUT_FILENO, tell, tell_count, tell_octet, tell_place};
 use septets::{Number, read_number};
 use version::{Known, Table, table_of};
 
 // Behind an entry: its number, its time and the reason (0 where no message is ignored); the context, and the place of the next entry.
-#[derive(Drop)]
+#[derive(Clone, Copy)]
 struct Passed {
     number: usize,
     time: u64,

@@ -1,4 +1,6 @@
 // The command `judge` of the probe: settings and a log's bytes, the verdict in numbers.
+#![tactic(auto)]
+
 use fields::malformed;
 use fields::words::octets_word;
 use forms::take_words;

@@ -1,9 +1,8 @@
 // In which state an accepted log ends. One that was cut behind an entry is accepted too: that something is missing shows here.
 use crate::refusal::number_of;
 use context::Context;
-use libc::STDOUT_FILENO;
 use saying::describe::{write_line, write_state_name};
-use saying::tell;
+use saying::{STDOUT_FILENO, tell};
 
 pub(crate) fn tell_ending(context: Context) {
     let number = number_of(context);

@@ -1,5 +1,7 @@
 // A log's verdict in words: accepted, with what that says of the radio and where it left off; or the entry at which it is refused, what that entry claims, and what the step
 // gives or which time rule it breaks.
+#![tactic(auto)]
+
 mod ending;
 mod refusal;
 
@@ -20,16 +22,16 @@ use timer::Window;
 use verdict::{Invitation, Judged};
 
 // The word `judge`.
-pub fn run_judge() -> u8 {
-    let strict = has_option(2, b"--settings-timers");
+pub fn run_judge(rt: &HostRuntime) -> u8 {
+    let strict = has_option(rt, 2, b"--settings-timers");
     let mut log = log_room();
-    let ready = settings_and_log_behind(b"judge", options(strict), &mut log);
+    let ready = settings_and_log_behind(rt, b"judge", options(strict), &mut log);
     if ready.verdict != 0 {
         return ready.verdict;
     }
     let settings = ready.settings;
     let count = ready.count;
-    tell_argument(std::num::wrapping_add_usize(options(strict), 3));
+    tell_argument(rt, std::num::wrapping_add_usize(options(strict), 3));
     tell(b": ");
     tell_judged(strict, settings, part(&log, 0, count))
 }

@@ -4,12 +4,12 @@ use filing::arguments::has_arguments;
 use filing::{log_room, read_argument};
 use text::words::part;
 
-pub fn run_show() -> u8 {
-    if !has_arguments(1, b"show", b"one argument, a log") {
+pub fn run_show(rt: &HostRuntime) -> u8 {
+    if !has_arguments(rt, 1, b"show", b"one argument, a log") {
         return 2;
     }
     let mut log = log_room();
-    let filed = read_argument(b"show", 2, &mut log);
+    let filed = read_argument(rt, b"show", 2, &mut log);
     if !filed.good {
         return 2;
     }

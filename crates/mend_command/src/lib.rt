@@ -1,4 +1,6 @@
 // The command `mend` of the probe: settings, the length of a copy buffer and a log's bytes; what was kept and dropped, what ended it, and the copy.
+#![tactic(auto)]
+
 ghost use Rattle.std.specs.Prelude.{◌≤◌};
 
 use fields::malformed;

@@ -1,6 +1,8 @@
 // A damaged log mended: the longest run of entries from its start that the judge accepts is written to a new file. What was kept and dropped is told, and why in the
 // judge's own words.
-use filing::arguments::has_arguments;
+#![tactic(auto)]
+
+use filing::arguments::{argument, has_arguments};
 use filing::{log_room, write_file};
 use judge_words::tell_judged;
 use mend::{Mended, Report};
@@ -12,8 +14,9 @@ use settings_words::argument::settings_before_log;
 use text::words::part;
 
 // The word `mend`.
-pub fn run_mend() -> u8 {
+pub fn run_mend(rt: &HostRuntime) -> u8 {
     if !has_arguments(
+        rt,
         3,
         b"mend",
         b"three arguments, a settings file, a log and the name of the copy to make",
@@ -21,17 +24,17 @@ pub fn run_mend() -> u8 {
         return 2;
     }
     let mut log = log_room();
-    let ready = settings_before_log(b"mend", 0, &mut log);
+    let ready = settings_before_log(rt, b"mend", 0, &mut log);
     if ready.verdict != 0 {
         return ready.verdict;
     }
     let settings = ready.settings;
     let count = ready.count;
-    mend_log(settings, part(&log, 0, count))
+    mend_log(rt, settings, part(&log, 0, count))
 }
 
 // A copy buffer as long as any log's is long enough, and settings that were read are in range: what can be refused is a log that is too long.
-fn mend_log(settings: Settings, log: &[u8]) -> u8 {
+fn mend_log(rt: &HostRuntime, settings: Settings, log: &[u8]) -> u8 {
     let identity = settings.identity;
     let count = settings.count;
     let own = own_of(settings);
@@ -42,14 +45,14 @@ fn mend_log(settings: Settings, log: &[u8]) -> u8 {
         return 1;
     };
     let length = report.length;
-    file_copy(settings, report, part(&copy, 0, length), log)
+    file_copy(rt, settings, report, part(&copy, 0, length), log)
 }
 
 // Writes the copy to the file that the third argument names, and answers the verdict: a copy that is written is fine, whatever was dropped.
-fn file_copy(settings: Settings, report: Report, copy: &[u8], log: &[u8]) -> u8 {
+fn file_copy(rt: &HostRuntime, settings: Settings, report: Report, copy: &[u8], log: &[u8]) -> u8 {
     let mut name = io::buffer();
-    let length = os::arg(4, &mut name);
-    if !write_file(b"mend", part(&name, 0, length), copy) {
+    let length = argument(rt, 4, &mut name);
+    if !write_file(rt, b"mend", part(&name, 0, length), copy) {
         return 2;
     }
     tell_name(part(&name, 0, length));

@@ -9,7 +9,7 @@ use text::output::Output;
 use text::words::{Words, finished, part};
 
 // What reading comes to: a row of `kinds`, and what it says.
-#[derive(Drop)]
+#[derive(Clone, Copy)]
 struct Told {
     row: u8,
     record: [u8; 22],

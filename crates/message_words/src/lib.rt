@@ -1,5 +1,7 @@
 // Messages in words: taken apart field by field with the octets of each, or told briefly within a line; one that can't be read with
 // where it is at fault and why.
+#![tactic(auto)]
+
 mod brief;
 mod faults;
 

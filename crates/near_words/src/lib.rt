@@ -1,4 +1,6 @@
 // A word that there is none of, and which words are near it: begun by it, or one letter changed, added or left out, or two neighbours swapped.
+#![tactic(auto)]
+
 use saying::complain;
 use saying::shown::complain_name;
 

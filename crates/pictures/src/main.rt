@@ -1,15 +1,18 @@
 // pictures: the program behind the words that make a file of a log for other programs to show: `pcap` and `timeline`.
 // Its last line is its verdict, as the other programs' is.
+#![tactic(auto)]
+
 use capture_words::write_capture;
-use filing::arguments::has_arguments;
+use filing::arguments::{argument, has_arguments};
 use filing::ending::tell_verdict;
 use filing::{log_room, read_file};
 use saying::complain;
 use text::words::{part, same};
 use timeline::tell_timeline;
 
-fn run_pcap() -> u8 {
+fn run_pcap(rt: &HostRuntime) -> u8 {
     if !has_arguments(
+        rt,
         2,
         b"pcap",
         b"two arguments, a log and the name of the capture file to make",
@@ -17,24 +20,26 @@ fn run_pcap() -> u8 {
         return 2;
     }
     let mut name = io::buffer();
-    let length = os::arg(2, &mut name);
+    let length = argument(rt, 2, &mut name);
     let mut log = log_room();
-    let filed = read_file(b"pcap", part(&name, 0, length), &mut log);
+    let filed = read_file(rt, b"pcap", part(&name, 0, length), &mut log);
     if !filed.good {
         return 2;
     }
     let count = filed.count;
     let mut path = io::buffer();
-    let end = os::arg(3, &mut path);
+    let end = argument(rt, 3, &mut path);
     write_capture(
+        rt,
         part(&name, 0, length),
         part(&log, 0, count),
         part(&path, 0, end),
     )
 }
 
-fn run_timeline() -> u8 {
+fn run_timeline(rt: &HostRuntime) -> u8 {
     if !has_arguments(
+        rt,
         2,
         b"timeline",
         b"two arguments, a log and the name of the picture to make",
@@ -42,35 +47,36 @@ fn run_timeline() -> u8 {
         return 2;
     }
     let mut name = io::buffer();
-    let length = os::arg(2, &mut name);
+    let length = argument(rt, 2, &mut name);
     let mut log = log_room();
-    let filed = read_file(b"timeline", part(&name, 0, length), &mut log);
+    let filed = read_file(rt, b"timeline", part(&name, 0, length), &mut log);
     if !filed.good {
         return 2;
     }
     let count = filed.count;
     let mut path = io::buffer();
-    let end = os::arg(3, &mut path);
+    let end = argument(rt, 3, &mut path);
     tell_timeline(
+        rt,
         part(&log, 0, count),
         part(&name, 0, length),
         part(&path, 0, end),
     )
 }
 
-fn run(word: &[u8]) -> u8 {
+fn run(rt: &HostRuntime, word: &[u8]) -> u8 {
     if same(word, b"pcap") {
-        return run_pcap();
+        return run_pcap(rt);
     }
     if same(word, b"timeline") {
-        return run_timeline();
+        return run_timeline(rt);
     }
     complain(b"pictures: its words are pcap and timeline\n");
     2
 }
 
-fn main() {
-    let mut argument = io::buffer();
-    let count = os::arg(1, &mut argument);
-    tell_verdict(run(part(&argument, 0, count)));
+fn main(rt: HostRuntime) {
+    let mut text = io::buffer();
+    let count = argument(&rt, 1, &mut text);
+    tell_verdict(&rt, run(&rt, part(&text, 0, count)));
 }

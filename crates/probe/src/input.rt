@@ -3,7 +3,9 @@ ghost use Rattle.std.specs.Prelude.{◌≡◌, ◌+◌, ◌≤◌, length};
 
 use crate::answer::answer_line;
 use fields::malformed;
+use filing::ending::has_reader_gone;
 use saying::flush;
+use std::io::Read;
 use text::output::Output;
 use text::words::find;
 
@@ -11,11 +13,11 @@ use text::words::find;
 const LF: u8 = 10;
 
 // How far the input is read: the first `have` bytes of the line buffer are the start of a line; or a line is being passed over.
-#[derive(Drop)]
+#[derive(Clone, Copy)]
 pub(crate) struct Progress {
     pub have: usize,
     pub passing: bool,
-    // 0: going on, 1: the input ended, 2: it could not be read.
+    // 0: going on, 1: the input ended, 2: it could not be read, 3: nobody reads the answers any more.
     pub stop: u8,
     pub output: Output,
 }
@@ -45,7 +47,7 @@ fn shift(buffer: &mut [u8], from: usize, to: usize)
 }
 
 // How much of a text whole lines take, and the output behind their answers.
-#[derive(Drop)]
+#[derive(Clone, Copy)]
 struct Lines {
     used: usize,
     output: Output,
@@ -83,7 +85,7 @@ fn answer_lines(
 }
 
 // Where the line that is being passed over ends: the place behind its end, or the text's length where it does not end.
-#[derive(Drop)]
+#[derive(Clone, Copy)]
 struct Passed {
     over: bool,
     at: usize,
@@ -157,18 +159,26 @@ fn take_lines(
 }
 
 // One read, and the lines that are whole then. The answers are written before the next read waits.
-fn turn(progress: Progress, lines: &mut [u8], octets: &mut [u8], buffer: &mut [u8]) -> Progress
+fn turn(
+    rt: &HostRuntime,
+    progress: Progress,
+    lines: &mut [u8],
+    octets: &mut [u8],
+    buffer: &mut [u8],
+) -> Progress
     requires { progress.have ≤ length lines.old }
     ensures { result.have ≤ length lines.new }
 {
     let have = progress.have;
     let output = progress.output;
     let empty = flush(buffer, output);
-    let got = libc::read(libc::STDIN_FILENO, &mut lines[have..]);
-    if got < 0 {
-        return standing(0, false, 2, empty);
+    if has_reader_gone() {
+        return standing(0, false, 3, empty);
     }
-    let count = io::count(got, &lines[have..]);
+    let mut input = rt.stdin();
+    let Ok(count) = input.read(&mut lines[have..]) else {
+        return standing(0, false, 2, empty);
+    };
     if count == 0 {
         let ended = standing(have, progress.passing, 0, empty);
         return last_line(ended, &lines[0..have], octets, buffer);
@@ -186,7 +196,12 @@ fn turn(progress: Progress, lines: &mut [u8], octets: &mut [u8], buffer: &mut [u
 }
 
 // A proved loop has to end, and nothing says that the input does: the loop counts its turns down from a number that no run uses up.
-pub(crate) fn stream(lines: &mut [u8], octets: &mut [u8], buffer: &mut [u8]) -> Progress {
+pub(crate) fn stream(
+    rt: &HostRuntime,
+    lines: &mut [u8],
+    octets: &mut [u8],
+    buffer: &mut [u8],
+) -> Progress {
     let mut progress = Progress {
         have: 0,
         passing: false,
@@ -195,7 +210,7 @@ pub(crate) fn stream(lines: &mut [u8], octets: &mut [u8], buffer: &mut [u8]) -> 
     };
     let mut turns = u64::MAX;
     while turns > 0 {
-        progress = turn(progress, lines, octets, buffer);
+        progress = turn(rt, progress, lines, octets, buffer);
         if progress.stop > 0 {
             return progress;
         }

@@ -1,32 +1,43 @@
 // probe: the program behind the word `probe`, by which other programs ask: commands on standard input, a line each, answered by a line each.
 // Its last line is its verdict, as the other programs' is.
+#![tactic(auto)]
+
 mod answer;
 mod input;
 
 use filing::arguments::argument_count;
-use filing::ending::tell_verdict;
+use filing::ending::{has_reader_gone, tell_verdict};
 use input::{line_room, octets_room, stream};
 use saying::{complain, flush};
+use std::process::ExitCode;
 
 // Answers the verdict.
-fn run_probe() -> u8 {
-    if argument_count() != 2 {
+fn run_probe(rt: &HostRuntime) -> u8 {
+    if argument_count(rt) != 2 {
         complain(b"heidezirkel probe: takes no arguments; commands come on standard input\n");
         return 2;
     }
     let mut lines = line_room();
     let mut octets = octets_room();
     let mut buffer = io::large_buffer();
-    let end = stream(&mut lines, &mut octets, &mut buffer);
+    let end = stream(rt, &mut lines, &mut octets, &mut buffer);
     let output = end.output;
     flush(&buffer, output);
     if end.stop == 1 {
         return 0;
     }
-    complain(b"heidezirkel probe: standard input can't be read\n");
+    if end.stop != 3 {
+        complain(b"heidezirkel probe: standard input can't be read\n");
+    }
     2
 }
 
-fn main() {
-    tell_verdict(run_probe());
+// Without a reader there is no verdict: the status is that of a program that a broken pipe ends.
+fn main(rt: HostRuntime) -> ExitCode {
+    let verdict = run_probe(&rt);
+    if has_reader_gone() {
+        return ExitCode::from(141);
+    }
+    tell_verdict(&rt, verdict);
+    ExitCode::SUCCESS
 }

@@ -1,4 +1,6 @@
 // The commands `record` and `grecord` of the probe: a log's bytes and an entry in numbers, the log's bytes afterwards.
+#![tactic(auto)]
+
 ghost use Rattle.std.specs.Prelude.{◌≤◌, length};
 
 use fields::malformed;
@@ -14,20 +16,20 @@ use version::Table;
 // The greatest number that a word may have.
 const MOST: u64 = 4294967295;
 
-#[derive(Drop)]
+#[derive(Clone, Copy)]
 struct HappenedWord {
     happened: TimedEvent,
     words: Words,
 }
 
-#[derive(Drop)]
+#[derive(Clone, Copy)]
 struct ClaimsWord {
     claims: Claims,
     words: Words,
 }
 
 // The octets of a message or a reply, as places behind the log's.
-#[derive(Drop)]
+#[derive(Clone, Copy)]
 struct Place {
     start: usize,
     count: usize,

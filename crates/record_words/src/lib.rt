@@ -1,5 +1,7 @@
 // A log made from a script of events: each event goes through the step of a radio with given settings, and what the step gives is recorded. The
 // times of a script are not judged, so that a script can tell of a bad radio too. Each message that is recorded as ignored is told, with the reason.
+#![tactic(auto)]
+
 mod making;
 mod refusal;
 
@@ -24,9 +26,9 @@ fn script_room() -> [u8; 1048576]
 }
 
 // Reads the script, makes its log and writes that to a new file. Answers the verdict. Nothing is written unless the whole script goes through.
-pub fn run(settings: Settings, script_path: &[u8], log_path: &[u8]) -> u8 {
+pub fn run(rt: &HostRuntime, settings: Settings, script_path: &[u8], log_path: &[u8]) -> u8 {
     let mut script = script_room();
-    let filed = read_file(b"record", script_path, &mut script);
+    let filed = read_file(rt, b"record", script_path, &mut script);
     if !filed.good {
         return 2;
     }
@@ -38,6 +40,7 @@ pub fn run(settings: Settings, script_path: &[u8], log_path: &[u8]) -> u8 {
     let identity = settings.identity;
     let named = settings.count;
     record_script(
+        rt,
         own_of(settings),
         part(&identity, 0, named),
         script_path,
@@ -48,6 +51,7 @@ pub fn run(settings: Settings, script_path: &[u8], log_path: &[u8]) -> u8 {
 
 // Makes the log and writes it, and then tells what it has of ignored messages.
 fn record_script(
+    rt: &HostRuntime,
     own: Own,
     identity: &[u8],
     script_path: &[u8],
@@ -58,15 +62,15 @@ fn record_script(
     let Made::Whole(entries, used) = make(own, identity, script_path, script, &mut log) else {
         return 1;
     };
-    let verdict = write_log(log_path, part(&log, 0, used), entries);
+    let verdict = write_log(rt, log_path, part(&log, 0, used), entries);
     if verdict == 0 {
         list(own, identity, part(&log, 0, used), entries);
     }
     verdict
 }
 
-fn write_log(path: &[u8], log: &[u8], entries: usize) -> u8 {
-    if !write_file(b"record", path, log) {
+fn write_log(rt: &HostRuntime, path: &[u8], log: &[u8], entries: usize) -> u8 {
+    if !write_file(rt, b"record", path, log) {
         return 2;
     }
     tell_name(path);

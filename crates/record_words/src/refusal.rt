@@ -15,7 +15,7 @@ use text::words::part;
 
 // The line can't be read; it names the kind of call a second time, or behind an event; its time lies before that of the event before, or more than a day behind it; the
 // step gives an answer that no log holds; or the log has no room for the entry.
-#[derive(Drop)]
+#[derive(Clone, Copy)]
 pub(crate) enum Why {
     Unreadable(Fault, Word),
     KindTwice,

@@ -1,6 +1,8 @@
 // recordings: the program behind the words `record`, which makes a log from a script of events, and `ignored`, which lists the messages of a log that the radio ignored, as `record` does too.
 // Its last line is its verdict, as the other programs' is.
-use filing::arguments::has_arguments;
+#![tactic(auto)]
+
+use filing::arguments::{argument, has_arguments};
 use filing::ending::tell_verdict;
 use ignored_words::run_ignored;
 use saying::complain;
@@ -8,44 +10,45 @@ use settings_values::Settings;
 use settings_words::argument::settings_argument;
 use text::words::{part, same};
 
-fn run_record() -> u8 {
+fn run_record(rt: &HostRuntime) -> u8 {
     if !has_arguments(
+        rt,
         3,
         b"record",
         b"three arguments, a settings file, a script and the name of the log to make",
     ) {
         return 2;
     }
-    let fitted = settings_argument(b"record");
+    let fitted = settings_argument(rt, b"record");
     if fitted.verdict != 0 {
         return fitted.verdict;
     }
     let settings = fitted.settings;
-    record_log(settings)
+    record_log(rt, settings)
 }
 
 // The script and the log that `record` makes of it.
-fn record_log(settings: Settings) -> u8 {
+fn record_log(rt: &HostRuntime, settings: Settings) -> u8 {
     let mut script = io::buffer();
-    let length = os::arg(3, &mut script);
+    let length = argument(rt, 3, &mut script);
     let mut log = io::buffer();
-    let count = os::arg(4, &mut log);
-    record_words::run(settings, part(&script, 0, length), part(&log, 0, count))
+    let count = argument(rt, 4, &mut log);
+    record_words::run(rt, settings, part(&script, 0, length), part(&log, 0, count))
 }
 
-fn run(word: &[u8]) -> u8 {
+fn run(rt: &HostRuntime, word: &[u8]) -> u8 {
     if same(word, b"record") {
-        return run_record();
+        return run_record(rt);
     }
     if same(word, b"ignored") {
-        return run_ignored();
+        return run_ignored(rt);
     }
     complain(b"recordings: its words are record and ignored\n");
     2
 }
 
-fn main() {
-    let mut argument = io::buffer();
-    let count = os::arg(1, &mut argument);
-    tell_verdict(run(part(&argument, 0, count)));
+fn main(rt: HostRuntime) {
+    let mut text = io::buffer();
+    let count = argument(&rt, 1, &mut text);
+    tell_verdict(&rt, run(&rt, part(&text, 0, count)));
 }

@@ -3,13 +3,12 @@
 // The words of a table are the lines of one text, and a match gives the line.
 ghost use Rattle.std.specs.Prelude.{◌<◌, ◌≤◌, length};
 
-use crate::{tell, tell_number, tell_octet, tell_place, write_text};
+use crate::{STDOUT_FILENO, tell, tell_number, tell_octet, tell_place, write_text};
 use causes::{Cause, cause_said};
 use codes::attributes::parameters_of;
 use codes::message_type;
 use codes::protocol::Protocol;
 use codes::state::{CallState, State, call_state_of};
-use libc::STDOUT_FILENO;
 use text::words::{find, part};
 
 // Where the line behind the one at `at` starts, or the text's end.

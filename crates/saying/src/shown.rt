@@ -1,10 +1,9 @@
 // Texts that others wrote, such as names of files: a terminal is told none of their characters that it would take for a command. These are told as \xNN.
-use crate::write_text;
-use libc::{STDERR_FILENO, STDOUT_FILENO};
+use crate::{STDERR_FILENO, STDOUT_FILENO, write_text};
 use text::words::part;
 
 // What is told as it is: characters of ASCII that can be printed, or letters beyond ASCII too.
-#[derive(Drop)]
+#[derive(Clone, Copy)]
 pub enum Plain {
     Ascii,
     Letters,

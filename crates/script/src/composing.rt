@@ -16,20 +16,20 @@ use text::words::part;
 use writing::{Wrote, write};
 
 // How many octets the message has; or what is wrong, and at which word.
-#[derive(Drop)]
+#[derive(Clone, Copy)]
 pub(crate) enum Composed {
     Count(usize),
     Torn(Fault, Word),
 }
 
 // The transaction of a message.
-#[derive(Drop)]
+#[derive(Clone, Copy)]
 struct Transaction {
     flag: bool,
     value: u8,
 }
 
-#[derive(Drop)]
+#[derive(Clone, Copy)]
 enum Chosen {
     Is(Transaction),
     Wrong(Fault, Word),

@@ -8,7 +8,7 @@ use text::output::{Output, put};
 use text::words::part;
 
 // How many digits or octets there are; or what is wrong, and at which word.
-#[derive(Drop)]
+#[derive(Clone, Copy)]
 pub(crate) enum Joined {
     Count(usize),
     Torn(Fault, Word),

@@ -1,5 +1,7 @@
 // A script of events, from which a log is made: one line of it, read. A line is TIME EVENT [DATA..], its words parted by one or more spaces; or, before the first
 // event, `call broadcast` or `call group`. What stands from a # on, at the line's start or behind a space, says nothing, and so does a line without words.
+#![tactic(auto)]
+
 mod clock;
 mod composing;
 mod joined;
@@ -30,7 +32,7 @@ const SPACE: u8 = 32;
 
 // An event of a script: its time in milliseconds from the start, its number, and what it carries; what it does not carry is 0. The octets of
 // a message are the first `count` of the buffer that is lent for them.
-#[derive(Drop)]
+#[derive(Clone, Copy)]
 pub struct Told {
     pub time: u64,
     pub event: u8,
@@ -42,7 +44,7 @@ pub struct Told {
 
 // The call that the script's radio is in, of which a message by its name takes what the line leaves out: whether there is one; the transaction value, and the flag
 // that the radio expects; the call reference; and the state attributes.
-#[derive(Drop)]
+#[derive(Clone, Copy)]
 pub struct Call {
     pub on: bool,
     pub value: u8,
@@ -53,7 +55,7 @@ pub struct Call {
 
 // What can't be read: the word of that name; what a message by its name needs; a character that is no hexadecimal digit; a last octet that is half there; more than 512 octets, or than the
 // buffer has; a word behind the last; a tab.
-#[derive(Drop)]
+#[derive(Clone, Copy)]
 pub enum Fault {
     Kind,
     Time,
@@ -71,7 +73,7 @@ pub enum Fault {
 
 // What can't be read of a message by its name: the word of that name; the transaction value, where the radio is in no call that has one; a parameter, where none is
 // given; a field that a message of this type does not have; a field that stands on the line already.
-#[derive(Drop)]
+#[derive(Clone, Copy)]
 pub enum Unfit {
     Message,
     Flag,
@@ -85,7 +87,7 @@ pub enum Unfit {
 }
 
 // What a line is. A fault comes with the word where it is, which has no characters where the line ends too early.
-#[derive(Drop)]
+#[derive(Clone, Copy)]
 pub enum Line {
     Nothing,
     Call(Protocol),

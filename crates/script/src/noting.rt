@@ -47,13 +47,13 @@ pub(crate) const UATT: usize = 10;
 pub(crate) const MODE: usize = 11;
 
 // The type of a message, 0 for none, and the place behind its name.
-#[derive(Drop)]
+#[derive(Clone, Copy)]
 pub(crate) struct Named {
     pub kind: u8,
     pub next: usize,
 }
 
-#[derive(Drop)]
+#[derive(Clone, Copy)]
 pub(crate) enum Noted {
     Fine,
     Torn(Fault, Word),

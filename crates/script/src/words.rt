@@ -6,7 +6,7 @@ use text::words::find;
 const SPACE: u8 = 32;
 
 // A word: its place, how many characters it has, and the place behind it. Where the line has no more words, it has none.
-#[derive(Drop)]
+#[derive(Clone, Copy)]
 pub struct Word {
     pub start: usize,
     pub count: usize,

@@ -1,4 +1,6 @@
 // The command `settings OCTETS` of the probe: what reading a settings file comes to, in numbers.
+#![tactic(auto)]
+
 use codes::answer;
 use fields::malformed;
 use fields::words::octets_word;

@@ -1,21 +1,21 @@
 // Settings files as the arguments of a word.
 use crate::tell_settings;
 use codes::answer;
-use filing::arguments::has_arguments;
+use filing::arguments::{argument, has_arguments};
 use filing::{read_argument, read_file};
 use settings::read_settings;
 use settings_values::Settings;
 use text::words::part;
 
 // The word `settings`.
-pub fn run_settings() -> u8 {
-    if !has_arguments(1, b"settings", b"one argument, a settings file") {
+pub fn run_settings(rt: &HostRuntime) -> u8 {
+    if !has_arguments(rt, 1, b"settings", b"one argument, a settings file") {
         return 2;
     }
     let mut name = io::buffer();
-    let length = os::arg(2, &mut name);
+    let length = argument(rt, 2, &mut name);
     let mut file = io::large_buffer();
-    let filed = read_file(b"settings", part(&name, 0, length), &mut file);
+    let filed = read_file(rt, b"settings", part(&name, 0, length), &mut file);
     if !filed.good {
         return 2;
     }
@@ -30,23 +30,23 @@ pub fn run_settings() -> u8 {
 }
 
 // The settings of a radio; or the verdict, 1 or 2, where there are none.
-#[derive(Drop)]
+#[derive(Clone, Copy)]
 pub struct Fitted {
     pub verdict: u8,
     pub settings: Settings,
 }
 
 // The settings file that is the first argument of a word. One that is refused stops the word at its line.
-pub fn settings_argument(word: &[u8]) -> Fitted {
-    settings_at(word, 2)
+pub fn settings_argument(rt: &HostRuntime, word: &[u8]) -> Fitted {
+    settings_at(rt, word, 2)
 }
 
 // The settings file that is the argument at a place.
-fn settings_at(word: &[u8], place: usize) -> Fitted {
+fn settings_at(rt: &HostRuntime, word: &[u8], place: usize) -> Fitted {
     let mut name = io::buffer();
-    let length = os::arg(place, &mut name);
+    let length = argument(rt, place, &mut name);
     let mut file = io::large_buffer();
-    let filed = read_file(word, part(&name, 0, length), &mut file);
+    let filed = read_file(rt, word, part(&name, 0, length), &mut file);
     if !filed.good {
         return Fitted {
             verdict: 2,
@@ -72,7 +72,7 @@ fn settings_at(word: &[u8], place: usize) -> Fitted {
 }
 
 // The same with a log, of which the first `count` bytes of a lent buffer are. The verdict is 2 where one of them is missing.
-#[derive(Drop)]
+#[derive(Clone, Copy)]
 pub struct Ready {
     pub verdict: u8,
     pub settings: Settings,
@@ -80,29 +80,34 @@ pub struct Ready {
 }
 
 // The settings file and the log that are the two arguments of a word.
-pub fn settings_and_log(word: &[u8], log: &mut [u8]) -> Ready {
-    settings_and_log_behind(word, 0, log)
+pub fn settings_and_log(rt: &HostRuntime, word: &[u8], log: &mut [u8]) -> Ready {
+    settings_and_log_behind(rt, word, 0, log)
 }
 
 // The same behind so many options.
-pub fn settings_and_log_behind(word: &[u8], options: usize, log: &mut [u8]) -> Ready {
+pub fn settings_and_log_behind(
+    rt: &HostRuntime,
+    word: &[u8],
+    options: usize,
+    log: &mut [u8],
+) -> Ready {
     let count = std::num::wrapping_add_usize(options, 2);
-    if !has_arguments(count, word, b"two arguments, a settings file and a log") {
+    if !has_arguments(rt, count, word, b"two arguments, a settings file and a log") {
         return stopped();
     }
-    settings_before_log(word, options, log)
+    settings_before_log(rt, word, options, log)
 }
 
 // The settings file and the log that are the first two arguments of a word behind so many options. Where the settings are refused, the log was not looked at: that is no
 // verdict on it.
-pub fn settings_before_log(word: &[u8], options: usize, log: &mut [u8]) -> Ready {
+pub fn settings_before_log(rt: &HostRuntime, word: &[u8], options: usize, log: &mut [u8]) -> Ready {
     let place = std::num::wrapping_add_usize(options, 2);
-    let fitted = settings_at(word, place);
+    let fitted = settings_at(rt, word, place);
     let settings = fitted.settings;
     if fitted.verdict != 0 {
         return stopped();
     }
-    let filed = read_argument(word, std::num::wrapping_add_usize(place, 1), log);
+    let filed = read_argument(rt, word, std::num::wrapping_add_usize(place, 1), log);
     if !filed.good {
         return stopped();
     }

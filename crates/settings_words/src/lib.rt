@@ -1,13 +1,14 @@
 // The settings file in words: what was read, or the line that is refused and what it wants.
+#![tactic(auto)]
+
 pub mod argument;
 mod fault;
 pub mod line;
 
 use codes::answer;
 use fault::{tell_fault, tell_too_long};
-use libc::STDOUT_FILENO;
 use saying::shown::tell_name;
-use saying::{tell, tell_hex, tell_number, tell_place};
+use saying::{STDOUT_FILENO, tell, tell_hex, tell_number, tell_place};
 use settings::ReadSettings;
 use settings_line::Fault;
 use settings_values::Settings;

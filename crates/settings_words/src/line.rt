@@ -1,7 +1,6 @@
 // A line of a file that people write, told with its number: for what is refused there.
-use libc::STDOUT_FILENO;
 use saying::shown::{Plain, write_shown};
-use saying::{tell, tell_place};
+use saying::{STDOUT_FILENO, tell, tell_place};
 use text::words::{part, same};
 
 // How many characters of a line are shown.

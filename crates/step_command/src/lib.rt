@@ -1,5 +1,7 @@
 // The commands `step` and `gstep` of the probe: a context, the settings and an event as the octets and numbers that the library for C has of them, and the step's
 // outcome likewise.
+#![tactic(auto)]
+
 use codes::protocol::Protocol;
 use fields::malformed;
 use forms::{say_words, take_words, up_to};

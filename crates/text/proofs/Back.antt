@@ -1,18 +1,16 @@
 -- Reading back what was written: hexadecimal of any octets, decimal of any number that fits.
 use Prim.Native.Nat.{ℕ, zero, suc, ◌+◌, ◌*◌, ◌-◌, ◌/◌, ◌%◌, ◌≤◌, ◌<◌}
 use mathlib.Core.Path.{◌≡◌, refl, sym, ap, ◌∙◌}
-use mathlib.Core.Bool.{Bool, true, false, cond, ◌&&◌, ◌||◌}
+use mathlib.Core.Bool.{Bool, true, false, cond}
 use mathlib.Core.List.{List, [], ◌∷◌, ◌++◌}
 use native.Mathlib.Omega.{arith}
-use lib.ListN.{length, get_or}
+use lib.ListN.{length}
 use mathlib.Core.List.{append_assoc, append-nil}
 use lib.Seq.{sets}
-use lib.Dec.{leb, ltb, eqb}
-use borrow.Author.Tests.{le-leb, lt-leb, le-ltb, lt-ltb, eq-eqb, ne_eqb, ltb-true, ltb-false}
-use Rattle.text.specs.declared.decimal.Number.{Number}
-use Rattle.text.specs.declared.hex.Spelt.{Spelt}
+use lib.Dec.{ltb}
+use borrow.Author.Tests.{le-leb, lt-leb, le-ltb, ne_eqb, ltb-true, ltb-false}
 use Rattle.text.specs.Hex.{digit_of, hex_of, is_digit, value_of, digits_before, octets_of, spells, spelt, spelt_leaves}
-use Rattle.text.specs.Decimal.{no_number, digits_from, number_of, digits_of, decimal_of}
+use Rattle.text.specs.Decimal.{digits_from, number_of, digits_of, decimal_of}
 use Rattle.text.proofs.Spelling.{hex_length}
 
 -- Every member is an octet.

@@ -8,8 +8,8 @@ use Rattle.text.specs.declared.hex.Spelt.{Spelt}
 use Rattle.text.specs.declared.output.Output.{Output}
 use Rattle.text.specs.declared.words.Word.{Word}
 use Rattle.text.specs.declared.words.Words.{Words}
-use Rattle.text.specs.Decimal.{number_of, decimal_of}
-use Rattle.text.specs.Hex.{hex_of, digits_before, spelt, spelt_leaves}
+use Rattle.text.specs.Decimal.{number_of}
+use Rattle.text.specs.Hex.{digits_before, spelt, spelt_leaves}
 use Rattle.text.specs.Output.{behind, put_leaves}
 use Rattle.text.specs.Words.{place_of, same_text, part_of, word_from, finished_at}
 

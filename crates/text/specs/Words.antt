@@ -1,5 +1,5 @@
 -- Lines and words: where a byte stands, whether two texts are the same, a part of a text, and words that one space parts.
-use Rattle.std.specs.Prelude.{ℕ, zero, suc, ◌+◌, Bool, true, false, cond, ◌&&◌, List, [], ◌∷◌, length, drop, leb, ltb, eqb}
+use Rattle.std.specs.Prelude.{ℕ, suc, ◌+◌, Bool, true, false, cond, ◌&&◌, List, [], ◌∷◌, length, drop, leb, ltb, eqb}
 use Rattle.octets.specs.Run.{part}
 use Rattle.text.specs.declared.words.Word.{Word}
 use Rattle.text.specs.declared.words.Words.{Words}

@@ -13,7 +13,7 @@ ghost use Rattle.text.specs.Hex.{
 };
 
 // What reading a text came to: whether it is good, and how many octets it spells.
-#[derive(Drop)]
+#[derive(Clone, Copy)]
 pub struct Spelt {
     pub good: bool,
     pub count: usize,

@@ -9,7 +9,7 @@ use crate::hex::fill_hex;
 use octets::copy_to;
 
 // How far a buffer is filled.
-#[derive(Drop)]
+#[derive(Clone, Copy)]
 pub struct Output {
     pub at: usize,
 }

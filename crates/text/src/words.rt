@@ -3,14 +3,14 @@ ghost use Rattle.std.specs.Prelude.{◌≡◌, ◌+◌, ◌≤◌, length};
 ghost use Rattle.text.specs.Words.{place_of, same_text, part_of, word_from, finished_at};
 
 // The words of a line: the place of the next one, and whether all before it were good. The first stands at 0.
-#[derive(Drop)]
+#[derive(Clone, Copy)]
 pub struct Words {
     pub at: usize,
     pub good: bool,
 }
 
 // A word: its place, how many characters it has, and the words behind it. One that is not good has none.
-#[derive(Drop)]
+#[derive(Clone, Copy)]
 pub struct Word {
     pub start: usize,
     pub count: usize,

@@ -15,7 +15,7 @@ use saying::{write_long, write_text};
 const LONGEST: u64 = 24000;
 
 // What is drawn: the log's readable entries, those up to which there is room, and whether the log breaks off behind them.
-#[derive(Drop)]
+#[derive(Clone, Copy)]
 pub(crate) struct Extent {
     pub total: usize,
     pub drawn: usize,

@@ -1,5 +1,7 @@
 // A log as a picture: time along, the states as bars, entries and messages as marks, the windows in which the joining and the invitation timer end, and a
 // list in words. It shows what the log claims and judges nothing.
+#![tactic(auto)]
+
 mod band;
 mod head;
 mod label;
@@ -16,12 +18,12 @@ use band::{Extent, draw_bands, measure};
 use drawing::write_form;
 use filing::{close_file, create_file};
 use head::{draw_head, top};
-use libc::{STDERR_FILENO, STDOUT_FILENO};
 use log_words::fault::{write_fault, write_version_fault};
 use place::first_place;
 use saying::shown::tell_name;
-use saying::{complain, tell, write_count};
+use saying::{STDERR_FILENO, STDOUT_FILENO, complain, tell, write_count};
 use septets::{Number, read_number};
+use std::os::fd::AsRawFd;
 use survey::{Survey, survey_log, view_of};
 use text::words::{find, part, same};
 use version::{Known, Table};
@@ -30,7 +32,7 @@ use version::{Known, Table};
 const MOST: usize = version::LONGEST;
 
 // Draws a log, the file `name`, into the new file `path`, and answers the verdict.
-pub fn tell_timeline(log: &[u8], name: &[u8], path: &[u8]) -> u8 {
+pub fn tell_timeline(rt: &HostRuntime, log: &[u8], name: &[u8], path: &[u8]) -> u8 {
     if MOST < log.len() {
         complain(b"log over 65,536 bytes (answer 10): nothing of it is drawn\n");
         return 1;
@@ -41,7 +43,7 @@ pub fn tell_timeline(log: &[u8], name: &[u8], path: &[u8]) -> u8 {
     let Known::Of(table) = version::table_of(number) else {
         return refuse_version(log);
     };
-    draw_log(table, log, at, name, path)
+    draw_log(rt, table, log, at, name, path)
 }
 
 // What has no version is no log, and no picture is made of it.
@@ -50,16 +52,16 @@ fn refuse_version(log: &[u8]) -> u8 {
     1
 }
 
-fn draw_log(table: Table, log: &[u8], at: usize, name: &[u8], path: &[u8]) -> u8 {
+fn draw_log(rt: &HostRuntime, table: Table, log: &[u8], at: usize, name: &[u8], path: &[u8]) -> u8 {
     let found = survey_log(table, log, at);
-    let descriptor = create_file(b"timeline", path);
-    if descriptor < 0 {
+    let Some(file) = create_file(rt, b"timeline", path) else {
         return 2;
-    }
+    };
+    let descriptor = file.as_raw_fd();
     let drawn = draw_picture(descriptor, table, log, at, name, found);
     // What can't be written any more shows at the last write.
     let whole = io::write_all(descriptor, b"</svg>\n");
-    if !close_file(b"timeline", path, descriptor, whole) {
+    if !close_file(rt, b"timeline", path, file, whole) {
         return 2;
     }
     tell_drawn(path, drawn);

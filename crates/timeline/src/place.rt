@@ -34,7 +34,7 @@ pub(crate) const JOINING: u8 = 5;
 
 // How the log is read, by the table of its version, and the picture drawn: how many lanes it has, units a second, milliseconds from one mark of the time axis to
 // the next, and what the times leave of the joining timer and of the invitation timer.
-#[derive(Drop)]
+#[derive(Clone, Copy)]
 pub(crate) struct View {
     pub table: Table,
     pub lanes: u8,
@@ -45,7 +45,7 @@ pub(crate) struct View {
 }
 
 // A timer that the picture follows: whether it was ever started, when it was last, and whether it runs.
-#[derive(Drop)]
+#[derive(Clone, Copy)]
 pub(crate) struct Watch {
     pub seen: bool,
     pub start: u64,
@@ -60,7 +60,7 @@ impl Watch {
     };
 }
 
-#[derive(Drop)]
+#[derive(Clone, Copy)]
 pub(crate) struct Place {
     // The byte behind the last entry, and that entry's number, time and state after.
     pub at: usize,

@@ -10,7 +10,7 @@ use saying::write_text;
 use text::words::part;
 
 // The transaction of a call: its value, whether the radio opened it, and whether the value of the next message is awaited.
-#[derive(Drop)]
+#[derive(Clone, Copy)]
 pub(crate) struct Transaction {
     pub value: u8,
     pub own: bool,

@@ -11,7 +11,7 @@ use version::Table;
 
 // What the times leave of a timer. `conflict` is the first entry, if any, at which nothing is left: the timer has run for `elapsed` there, and the window is
 // that of the entries before.
-#[derive(Drop)]
+#[derive(Clone, Copy)]
 pub(crate) struct Bounds {
     pub window: Window,
     pub conflict: usize,
@@ -38,7 +38,7 @@ impl Bounds {
     };
 }
 
-#[derive(Drop)]
+#[derive(Clone, Copy)]
 pub(crate) struct Survey {
     // Behind the last entry that can be read.
     pub place: Place,

@@ -10,14 +10,14 @@ use drawing::write_form;
 use timer::Window;
 
 // What a band draws: the entries up to the one of this number, and whether the time behind that too.
-#[derive(Drop)]
+#[derive(Clone, Copy)]
 pub(crate) struct Band {
     pub last: usize,
     pub tail: bool,
 }
 
 // A window as far as it is drawn in one, if it is: from when to when, and from where to where along the axis.
-#[derive(Drop)]
+#[derive(Clone, Copy)]
 pub(crate) struct Stretch {
     pub drawn: bool,
     pub first: u64,
@@ -37,7 +37,7 @@ impl Stretch {
 }
 
 // How far the time from one entry to the next is drawn without a break, and whether it goes on behind that.
-#[derive(Drop)]
+#[derive(Clone, Copy)]
 struct Reach {
     time: u64,
     onward: bool,
