@@ -1,5 +1,4 @@
 -- `fault_number` meets its contract, fault by fault.
-use borrow.Author.Rules.{rules}
 use Rattle.settings_numbers.specs.Configuring.{fault_number}
 use Rattle.settings_numbers.proofs.fault_number.Goals as goal
 

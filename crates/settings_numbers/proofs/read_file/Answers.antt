@@ -1,5 +1,4 @@
 -- `read_file` meets its contract: the file is refused, or taken.
-use borrow.Author.Rules.{rules}
 use Rattle.settings_numbers.proofs.Files.{file-refused, file-taken}
 use Rattle.settings_numbers.proofs.read_file.Goals as goal
 
