@@ -16,11 +16,9 @@ use Rattle.transitions.specs.Table.{step_table}
 use Rattle.transitions.proofs.Sound.{rows_sound}
 use Rattle.transitions.proofs.Decided.{Plain, event-plain as by_rows}
 use Rattle.call.specs.declared.Seen.{Seen}
-use Rattle.call.specs.declared.Settled.{Settled}
 use Rattle.call.specs.Due.{settled_by, settled}
 use Rattle.call.specs.Events.{seen_of}
 use Rattle.call.specs.Step.{no_step, carried_out, step_by}
-use Rattle.codes.specs.declared.protocol.Protocol.{Protocol}
 use Rattle.version.specs.Version.{greatest_actions, protocol_of}
 use Rattle.message.specs.declared.Own.{Own}
 use Rattle.reply.proofs.Fits.{OfARow, row-reply}

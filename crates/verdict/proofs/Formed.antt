@@ -1,21 +1,19 @@
 -- A log is well formed exactly if it is the version and entries of the layout in range, written one behind the other.
-use Prim.Native.Nat.{ℕ, zero, suc, ◌+◌}
+use Prim.Native.Nat.{ℕ, zero, suc}
 use mathlib.Core.Path.{◌≡◌, refl, sym, ap, subst, ◌∙◌}
 use mathlib.Core.Bool.{Bool, true, false, cond}
 use mathlib.Core.List.{List, [], ◌∷◌, ◌++◌}
 use mathlib.Core.Logic.{◌↔◌}
-use native.Mathlib.Omega.{arith}
 use native.Mathlib.Nat.{zero-add}
 use lib.Dec.{leb}
-use lib.ListN.{length, take, drop, take-append-drop, drop_of_length-le}
+use lib.ListN.{length, drop, take-append-drop, drop_of_length-le}
 use lib.Seq.{drop-drop}
 use borrow.Author.Tests.{leb-true}
 use Rattle.version.specs.declared.Table.{Table}
 use Rattle.message.specs.declared.Own.{Own}
-use Rattle.septets.specs.Number.{grouped, number_at}
-use Rattle.septets.specs.declared.Number.TheVariants.{Value}
+use Rattle.septets.specs.Number.{number_at}
 use Rattle.septets.proofs.Meaning.{Octets, Shortest, Exact, number-exact}
-use Rattle.log_entry.specs.Layout.{Meant, written, ranged, version_bytes, entries as layout, whole}
+use Rattle.log_entry.specs.Layout.{Meant, written, version_bytes, entries as layout, whole}
 use Rattle.log_entry.specs.Reading.{entry_at, meant}
 use Rattle.log_entry.specs.declared.Found.{Found}
 use Rattle.log_entry.specs.declared.Found.TheVariants.{Read, Unreadable}
@@ -25,7 +23,7 @@ use Rattle.judge_laws.specs.Reading.{on_read, entries_in, entries, written as wr
 use Rattle.judge_laws.proofs.Reading.{entries-written}
 use Rattle.judge_laws.proofs.Complete.{as_log_well_formed}
 use Rattle.verdict.specs.Table.{steps}
-use Rattle.verdict.specs.Entries.{entry_meant, meant_by, read_of, reader, writer}
+use Rattle.verdict.specs.Entries.{entry_meant, read_of, reader, writer}
 use Rattle.verdict.specs.Formed.{Readable, AllInRange, Laid}
 use Rattle.verdict.proofs.Recorder.{AllRanged, carried_all, meant_all, carried-written, carried_fine, version-reads}
 
