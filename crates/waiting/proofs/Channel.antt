@@ -12,7 +12,6 @@ use Rattle.octets.proofs.Choice.{at_cond, never}
 use Rattle.codes.specs.declared.state.State.{State}
 use Rattle.codes.specs.declared.state.State.TheVariants.{U0, U6}
 use Rattle.codes.specs.declared.protocol.Protocol.{Protocol}
-use Rattle.codes.specs.declared.protocol.Protocol.TheVariants as Protocol
 use Rattle.codes.specs.declared.protocol.Protocol.TheVariants.{Broadcast}
 use Rattle.timer.specs.declared.Timer.TheVariants.{NoChannel}
 use Rattle.timer.specs.declared.Timers.{Timers}
@@ -225,7 +224,7 @@ module _ (table : Table) (broadcast : protocol_of table ≡ Broadcast) (x : Cont
   -- "No channel" is never refused in a fit context, with settings in range; so its step is taken, where there is one.
   has_lost : has_event table 12 ≡ true
   unfolding has_event
-  has_lost = elim table [ First ↦ refl | Second ↦ refl | Third ↦ refl | Group ↦ refl ]
+  has_lost = elim table as (λ v. has_event v 12 ≡ true) [ First ↦ refl | Second ↦ refl | Third ↦ refl | Group ↦ refl ]
 
   module _ (own : Own) (identity : List ℕ) (settings : settings_out own.key (length identity) ≡ false) (fit : fit_of table x ≡ true) where
     not-refused : (h : Happened) (s : List ℕ) → h.number ≡ 12 → refusal_of table x own.key (length identity) h (length s) 255 ≡ 0
