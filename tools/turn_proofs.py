@@ -384,9 +384,8 @@ class Frame:
 
     def more_before(self, place, text, at):
         while re.match(r"\.before(?![\w'-])", text[at:]):
-            place = self.up(place, 1)
-            if place is None:
-                return None
+            above = self.up(place, 1)
+            place = place if above is None else above
             at += len(".before")
         if re.match(r"\.[\w«]", text[at:]):
             return None if False else (place, at)

@@ -1,5 +1,5 @@
 -- The step, as C calls it, by a table: sixteen octets of context, twenty-one of settings, an event in numbers, a message and a reply buffer of a length.
-use Rattle.std.specs.Prelude.{ℕ, ◌≡◌, List, [], length}
+use Rattle.std.specs.Prelude.{ℕ, ◌≡◌, List, []}
 use Rattle.std.proofs.lemmas.List.Edits.{sets}
 use Rattle.context.specs.declared.Context.{Context}
 use Rattle.version.specs.declared.Table.{Table}
