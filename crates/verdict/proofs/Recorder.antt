@@ -2,6 +2,7 @@
 use Prim.Native.Nat.{ℕ, ◌+◌, ◌≤◌, ◌<◌}
 use mathlib.Core.Path.{◌≡◌, refl, sym, ap, ◌∙◌}
 use mathlib.Core.Bool.{Bool, true, false, cond}
+use Rattle.std.specs.Prelude.{Some}
 use mathlib.Core.List.{List, [], ◌∷◌, ◌++◌, append_assoc, append-nil}
 use native.Mathlib.Omega.{arith}
 use native.Mathlib.Nat.{zero-add}
@@ -17,7 +18,6 @@ use Rattle.version.specs.Version.{version_of, table_of, longest}
 use Rattle.version.proofs.Back.{table-number}
 use Rattle.version.proofs.Tables.{number_small}
 use Rattle.septets.specs.Number.{grouped, groups, groups_at, joined, number_at}
-use Rattle.septets.specs.declared.Number.TheVariants.{Value}
 use Rattle.septets.proofs.Meaning.{number-reads}
 use Rattle.log_data.specs.Reading.{carries_call}
 use Rattle.log_entry.specs.Layout.{Meant, ranged, kept, version_bytes, entries as layout, whole}
@@ -159,9 +159,9 @@ module _ (table : Table) (own : Own) (identity : List ℕ) where
 
 -- ---- the promise
 
-pub version-reads : (table : Table) (rest : List ℕ) → number_at (version_bytes table ++ rest) 0 ≡ Value (version_of table) (length (version_bytes table))
+pub version-reads : (table : Table) (rest : List ℕ) → number_at (version_bytes table ++ rest) 0 ≡ Some (version_of table, length (version_bytes table))
 version-reads table rest =
-    number-reads (version_of table) (omega (arith, number_small table)) [] rest ∙ ap (Value (version_of table)) (zero-add (length (version_bytes table)))
+    number-reads (version_of table) (omega (arith, number_small table)) [] rest ∙ ap (λ (next : ℕ). Some (version_of table, next)) (zero-add (length (version_bytes table)))
 
 -- "A log our recorder wrote from true steps is always accepted."
 -- A host makes steps from a cleared context on, under settings in range, one joining timer from 10,000 to 30,000 ms and one invitation timer from 1,000 to 600,000 ms,
