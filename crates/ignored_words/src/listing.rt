@@ -10,7 +10,7 @@ use replay::{message_of, step_entry};
 use saying::describe::write_kind;
 use saying::{STDOUT_FILENO, tell, tell_count, tell_octet, tell_place};
 use septets::read_number;
-use version::{Known, Table, table_of};
+use version::{Table, table_of};
 
 // Behind an entry: its number, its time and the reason (0 where no message is ignored); the context, and the place of the next entry.
 #[derive(Clone, Copy)]
@@ -28,7 +28,7 @@ pub fn list(own: Own, identity: &[u8], log: &[u8], entries: usize) -> [usize; 7]
     let Some((version, place)) = read_number(log, 0) else {
         return counts;
     };
-    let Known::Of(table) = table_of(version) else {
+    let Some(table) = table_of(version) else {
         return counts;
     };
     let mut passed = Passed {

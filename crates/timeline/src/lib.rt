@@ -26,7 +26,7 @@ use septets::read_number;
 use std::os::fd::AsRawFd;
 use survey::{Survey, survey_log, view_of};
 use text::words::{find, part, same};
-use version::{Known, Table};
+use version::Table;
 
 // The most bytes that a log has.
 const MOST: usize = version::LONGEST;
@@ -40,7 +40,7 @@ pub fn tell_timeline(rt: &HostRuntime, log: &[u8], name: &[u8], path: &[u8]) -> 
     let Some((number, at)) = read_number(log, 0) else {
         return refuse_version(log);
     };
-    let Known::Of(table) = version::table_of(number) else {
+    let Some(table) = version::table_of(number) else {
         return refuse_version(log);
     };
     draw_log(rt, table, log, at, name, path)
