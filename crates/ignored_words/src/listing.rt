@@ -3,14 +3,14 @@ use crate::reason::tell_particulars;
 use codes::protocol::Protocol;
 use context::{Context, state_number};
 use fields::{fault_number, octet_at};
-use log_entry::{Found, read_entry};
+use log_entry::read_entry;
 use log_words::entry::{tell_time, write_reason, write_state_name};
 use message::{Own, Reading};
 use replay::{message_of, step_entry};
 use saying::describe::write_kind;
 use saying::{STDOUT_FILENO, tell, tell_count, tell_octet, tell_place};
-use septets::{Number, read_number};
-use version::{Known, Table, table_of};
+use septets::read_number;
+use version::{Table, table_of};
 
 // Behind an entry: its number, its time and the reason (0 where no message is ignored); the context, and the place of the next entry.
 #[derive(Clone, Copy)]
@@ -25,10 +25,10 @@ struct Passed {
 // Lists what is ignored in the first `entries` entries, and answers how many entries have each reason, 0 to 6.
 pub fn list(own: Own, identity: &[u8], log: &[u8], entries: usize) -> [usize; 7] {
     let mut counts = [0; 7];
-    let Number::Value(version, place) = read_number(log, 0) else {
+    let Some((version, place)) = read_number(log, 0) else {
         return counts;
     };
-    let Known::Of(table) = table_of(version) else {
+    let Some(table) = table_of(version) else {
         return counts;
     };
     let mut passed = Passed {
@@ -56,7 +56,7 @@ fn count(counts: &mut [usize; 7], reason: u8) {
 
 // The next entry, and a line for it where its message is ignored. There is one: the walk, or the recorder, has passed it.
 fn pass_entry(table: Table, own: Own, identity: &[u8], log: &[u8], before: Passed) -> Passed {
-    let Found::Read(entry, place) = read_entry(table, log, before.place) else {
+    let Ok((entry, place)) = read_entry(table, log, before.place) else {
         return before;
     };
     let context = before.context;

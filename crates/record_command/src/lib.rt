@@ -6,7 +6,7 @@ ghost use Rattle.std.specs.Prelude.{◌≤◌, length};
 use fields::malformed;
 use fields::words::{number_word, octets_word, reference_word};
 use log_entry::Reference;
-use recorder::Recorded;
+use recorder::Refusal;
 use recorder_size::{Claims, TimedEvent};
 use saying::{say, say_decimal, say_hex};
 use text::output::{Output, put};
@@ -162,12 +162,17 @@ fn say_recorded(
     say_answer(buffer, output, recorded, part(octets, 0, size))
 }
 
-fn say_answer(buffer: &mut [u8], output: Output, recorded: Recorded, log: &[u8]) -> Output {
+fn say_answer(
+    buffer: &mut [u8],
+    output: Output,
+    recorded: Result<usize, Refusal>,
+    log: &[u8],
+) -> Output {
     match recorded {
-        Recorded::OutOfRange => say(buffer, output, b"4\n"),
-        Recorded::TooLong => say(buffer, output, b"10\n"),
-        Recorded::NoRoom => say(buffer, output, b"11\n"),
-        Recorded::Used(total) => {
+        Err(Refusal::OutOfRange) => say(buffer, output, b"4\n"),
+        Err(Refusal::TooLong) => say(buffer, output, b"10\n"),
+        Err(Refusal::NoRoom) => say(buffer, output, b"11\n"),
+        Ok(total) => {
             let answer = say(buffer, output, b"0 ");
             let count = say_decimal(buffer, answer, total as u64);
             let space = say(buffer, count, b" ");

@@ -7,7 +7,7 @@ use crate::place::{LEAD, MARGIN, Place, RIGHT, View, in_new_band, next_place, on
 use crate::segment::{draw_segment, draw_tail};
 use crate::window::{Band, tail_time};
 use drawing::{begin_text, end_text};
-use log_entry::{Found, read_entry};
+use log_entry::read_entry;
 use log_words::entry::write_clock;
 use saying::{write_long, write_text};
 
@@ -230,7 +230,7 @@ fn draw_entry(
     kind: u8,
 ) -> Place {
     let table = view.table;
-    let Found::Read(entry, at) = read_entry(table, log, place.at) else {
+    let Ok((entry, at)) = read_entry(table, log, place.at) else {
         return next_place(log, view, place);
     };
     let next = onward(log, view, place, entry, at);

@@ -22,11 +22,11 @@ use log_words::fault::{write_fault, write_version_fault};
 use place::first_place;
 use saying::shown::tell_name;
 use saying::{STDERR_FILENO, STDOUT_FILENO, complain, tell, write_count};
-use septets::{Number, read_number};
+use septets::read_number;
 use std::os::fd::AsRawFd;
 use survey::{Survey, survey_log, view_of};
 use text::words::{find, part, same};
-use version::{Known, Table};
+use version::Table;
 
 // The most bytes that a log has.
 const MOST: usize = version::LONGEST;
@@ -37,10 +37,10 @@ pub fn tell_timeline(rt: &HostRuntime, log: &[u8], name: &[u8], path: &[u8]) -> 
         complain(b"log over 65,536 bytes (answer 10): nothing of it is drawn\n");
         return 1;
     }
-    let Number::Value(number, at) = read_number(log, 0) else {
+    let Some((number, at)) = read_number(log, 0) else {
         return refuse_version(log);
     };
-    let Known::Of(table) = version::table_of(number) else {
+    let Some(table) = version::table_of(number) else {
         return refuse_version(log);
     };
     draw_log(rt, table, log, at, name, path)

@@ -2,7 +2,7 @@
 use crate::reason::{Transaction, transaction_behind};
 use codes::{action, answer, event};
 use fields::reply_messages::messages_of;
-use log_entry::{Claim, Entry, Found, read_entry};
+use log_entry::{Claim, Entry, read_entry};
 use log_words::entry::asked_from;
 use log_words::has_invitation_timer;
 use timer::{Timers, Window};
@@ -269,7 +269,7 @@ pub(crate) fn onward(log: &[u8], view: View, place: Place, entry: Entry, at: usi
 // The place behind the next entry. Where there is none to be read, the walk stays, and counts on so that it ends.
 pub(crate) fn next_place(log: &[u8], view: View, place: Place) -> Place {
     let table = view.table;
-    let Found::Read(entry, at) = read_entry(table, log, place.at) else {
+    let Ok((entry, at)) = read_entry(table, log, place.at) else {
         let mut next = place;
         next.number = std::num::wrapping_add_usize(place.number, 1);
         return next;

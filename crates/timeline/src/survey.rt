@@ -5,7 +5,7 @@ use crate::place::{
     invitation_left, is_cut, joining_left, onward, shown, smaller, sum,
 };
 use codes::event;
-use log_entry::{Entry, Found, read_entry};
+use log_entry::{Entry, read_entry};
 use timer::{Timers, Window};
 use version::Table;
 
@@ -85,13 +85,13 @@ fn is_over(log: &[u8], found: Survey) -> bool {
 fn survey_next(table: Table, log: &[u8], found: Survey) -> Survey {
     let place = found.place;
     match read_entry(table, log, place.at) {
-        Found::Unreadable(fault) => {
+        Err(fault) => {
             let mut broken = found;
             broken.broken = true;
             broken.fault = fault;
             broken
         }
-        Found::Read(entry, at) => survey_entry(table, log, found, entry, at),
+        Ok((entry, at)) => survey_entry(table, log, found, entry, at),
     }
 }
 
