@@ -2,10 +2,10 @@
 use Prim.Native.Nat.{ℕ, ◌<◌}
 use mathlib.Core.Path.{◌≡◌, refl, sym, ap, ◌∙◌}
 use mathlib.Core.List.{[], ◌∷◌}
-use mathlib.Core.Bool.{true}
+use mathlib.Core.Bool.{true, false}
 use native.Mathlib.Omega.{arith}
 use lib.ListN.{get_or}
-use borrow.Author.Tests.{eqb-true}
+use borrow.Author.Tests.{eqb-true, ne_eqb}
 use Rattle.codes.specs.declared.state.State.{State}
 use Rattle.codes.specs.declared.state.State.TheVariants.{U0, U0p, U1, U2, U3, U4, U5, U6, U2sl, U2wr, U2r, U2ws, U2sr, U2nc}
 use Rattle.codes.specs.declared.attributes.Parameters.{Parameters}
@@ -26,6 +26,10 @@ at_number = elim [ U0 ↦ refl | U0p ↦ refl | U1 ↦ refl | U2 ↦ refl | U3 �
 -- States of the same number are the same.
 pub same-state : (a b : State) → same a b ≡ true → a ≡ b
 same-state a b e = sym (at_number a) ∙ ap state_at (eqb-true (number_of a) (number_of b) e) ∙ at_number b
+
+-- Other states have other numbers.
+pub other_state : (a b : State) → (a ≡ b → ⊥) → same a b ≡ false
+other_state a b n = ne_eqb _ _ (λ e. n (sym (at_number a) ∙ ap state_at e ∙ at_number b))
 
 -- The states before U2sl, those of a broadcast call, set all four parameters.
 pub sets-all : (s : State) (p : Parameters) → number_of s < 8 → start_row s ≡ entering s p

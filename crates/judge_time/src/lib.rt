@@ -3,6 +3,7 @@
 
 ghost use Rattle.std.specs.Prelude.{◌≡◌};
 ghost use Rattle.judge_time.specs.Clock.{astray, greatest_left, least_left, left_with, started_at, tick_of, untimely_at, while_running, window_left};
+ghost use Rattle.timer.specs.Timers.{number_of_any, timer_number};
 
 use timer::{Timer, Window};
 
@@ -33,14 +34,12 @@ impl Clock {
 }
 
 // Whether an entry breaks the time rule of a timer of known length that runs for `age` milliseconds; `ends` where it is that timer's expiry.
-fn is_untimely(timer: u8, age: u64, ends: bool) -> bool
-    ensures { result ≡ untimely_at timer age ends }
+fn is_untimely(timer: Timer, age: u64, ends: bool) -> bool
+    ensures { result ≡ untimely_at (timer_number timer) age ends }
 {
-    let joining = timer::timer_number(Timer::ConnReq);
-    let invitation = timer::timer_number(Timer::Pres);
     let length = timer::timer_length(0, 0, timer) as u64;
     let wrong = (ends & (age != length)) | (length < age);
-    (timer != joining) & ((timer != invitation) & wrong)
+    (timer != Timer::ConnReq) & ((timer != Timer::Pres) & wrong)
 }
 
 // The least length that is left of a timer that has run for so long.
@@ -79,8 +78,8 @@ fn window_left(mine: bool, age: u64, ends: bool, window: Window) -> Window
 }
 
 // When the timer that runs behind the entry was started.
-fn started_after(before: u8, after: u8, started: u64, now: u64) -> u64
-    ensures { result ≡ started_at before after started now }
+fn started_after(before: Option<Timer>, after: Option<Timer>, started: u64, now: u64) -> u64
+    ensures { result ≡ started_at (number_of_any before) (number_of_any after) started now }
 {
     if after == before {
         return started;
@@ -117,27 +116,33 @@ fn is_astray(time: u64, started: u64) -> bool
 fn while_running(
     joining: Window,
     invitation: Window,
-    timer: u8,
+    timer: Timer,
     age: u64,
     ends: bool,
     time: u64,
     started: u64,
 ) -> Ticked
-    ensures { result ≡ while_running joining invitation timer age ends time started }
+    ensures { result ≡ while_running joining invitation (timer_number timer) age ends time started }
 {
     if is_untimely(timer, age, ends) {
         return Ticked::OutOfTime;
     }
-    let joins = timer == timer::timer_number(Timer::ConnReq);
+    let joins = timer == Timer::ConnReq;
     let joining_left = window_left(joins, age, ends, joining);
-    let invites = timer == timer::timer_number(Timer::Pres);
+    let invites = timer == Timer::Pres;
     let invitation_left = window_left(invites, age, ends, invitation);
     left_with(joining_left, invitation_left, time, started)
 }
 
-// What an entry `delta` milliseconds later, of this event, makes of a clock. `before` and `after` are the timers that run before and behind the entry.
-pub fn tick(clock: Clock, before: u8, after: u8, delta: u32, event: u8) -> Ticked
-    ensures { result ≡ tick_of clock before after delta event }
+// What an entry `delta` milliseconds later, of this event, makes of a clock. `before` and `after` are the timers, if any, that run before and behind the entry.
+pub fn tick(
+    clock: Clock,
+    before: Option<Timer>,
+    after: Option<Timer>,
+    delta: u32,
+    event: u8,
+) -> Ticked
+    ensures { result ≡ tick_of clock (number_of_any before) (number_of_any after) delta event }
 {
     if is_astray(clock.time, clock.started) {
         return Ticked::Astray;
@@ -147,15 +152,15 @@ pub fn tick(clock: Clock, before: u8, after: u8, delta: u32, event: u8) -> Ticke
     let joining = clock.joining;
     let invitation = clock.invitation;
     // Most entries find no timer running: what was left is handed on as it is.
-    if before == 0 {
+    let Some(timer) = before else {
         return Ticked::Onward(Clock {
             time: now,
             started,
             joining,
             invitation,
         });
-    }
+    };
     let age = now - clock.started;
     let ends = timer::expired_timer(event as u32) == before;
-    while_running(joining, invitation, before, age, ends, now, started)
+    while_running(joining, invitation, timer, age, ends, now, started)
 }

@@ -4,7 +4,7 @@
 ghost use Rattle.std.specs.Prelude.{◌≡◌};
 ghost use Rattle.codes.specs.declared.state.State.TheVariants.{U0p, U1, U2, U5, U2sl};
 ghost use Rattle.codes.specs.MessageTypes.{CONNECT, TERMINATION-REJECT};
-ghost use Rattle.timer.specs.declared.Timer.TheVariants.{NoTimer, Term};
+ghost use Rattle.timer.specs.declared.Timer.TheVariants.{Term};
 ghost use Rattle.context.specs.Remembered.{returning};
 ghost use Rattle.transitions.specs.declared.Send.TheVariants.{Nothing};
 ghost use Rattle.transitions.specs.declared.Stores.TheVariants as Stores;
@@ -27,8 +27,8 @@ const CONNECTED: Decision = Decision::Take(Taken {
     next: State::U2,
     actions: action::NONE,
     sends: Send::Nothing,
-    stops: Timer::MmEst,
-    sets: Timer::NoTimer,
+    stops: Some(Timer::MmEst),
+    sets: None,
     stores: Stores::ItsReference,
     memory: Memory::Keep,
     note: Note::Nothing,
@@ -39,8 +39,8 @@ const CONNECTED_IMPLICITLY: Decision = Decision::Take(Taken {
     next: State::U2,
     actions: action::TELL_MM_EXISTS,
     sends: Send::Nothing,
-    stops: Timer::MmEst,
-    sets: Timer::NoTimer,
+    stops: Some(Timer::MmEst),
+    sets: None,
     stores: Stores::ItsReference,
     memory: Memory::Keep,
     note: Note::Nothing,
@@ -51,8 +51,8 @@ const REJECTED: Decision = Decision::Take(Taken {
     next: State::U5,
     actions: action::INFORM,
     sends: Send::Nothing,
-    stops: Timer::Term,
-    sets: Timer::NoTimer,
+    stops: Some(Timer::Term),
+    sets: None,
     stores: Stores::Nothing,
     memory: Memory::Keep,
     note: Note::Nothing,
@@ -63,8 +63,8 @@ const TERMINATED: Decision = Decision::Take(Taken {
     next: State::U0,
     actions: action::INFORM + action::RELEASE,
     sends: Send::Nothing,
-    stops: Timer::NoTimer,
-    sets: Timer::NoTimer,
+    stops: None,
+    sets: None,
     stores: Stores::Nothing,
     memory: Memory::Keep,
     note: Note::Nothing,
@@ -78,15 +78,15 @@ const UNKNOWN: Decision = Decision::Report(cause::TYPE_NON_EXISTENT);
 
 // The same from the second table on: back to where the termination was asked from.
 fn returned(remembered: Remembered) -> Decision
-    ensures { result ≡ Take (record { next = returning remembered U5; actions = 1; sends = Nothing; stops = Term; sets = NoTimer; stores = Stores.Nothing; memory = Forget; note = Note.Nothing }) }
+    ensures { result ≡ Take (record { next = returning remembered U5; actions = 1; sends = Nothing; stops = Some Term; sets = None; stores = Stores.Nothing; memory = Forget; note = Note.Nothing }) }
 {
     let next = context::returning(remembered, State::U5);
     Decision::Take(Taken {
         next,
         actions: action::INFORM,
         sends: Send::Nothing,
-        stops: Timer::Term,
-        sets: Timer::NoTimer,
+        stops: Some(Timer::Term),
+        sets: None,
         stores: Stores::Nothing,
         memory: Memory::Forget,
         note: Note::Nothing,

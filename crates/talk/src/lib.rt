@@ -209,8 +209,8 @@ fn requested(context: Context) -> Context
     let reference = context.reference;
     let before = context.talk;
     let parameters = context::start_row(State::U5);
-    let stopped = timer::with_timer(Timer::MmEst, false, ran);
-    let timers = timer::with_timer(Timer::Term, true, stopped);
+    let stopped = timer::with_timer(Some(Timer::MmEst), false, ran);
+    let timers = timer::with_timer(Some(Timer::Term), true, stopped);
     let remembered = context::remembering(here);
     let talk = pending(false, before.status, before);
     Context {

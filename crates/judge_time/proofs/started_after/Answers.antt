@@ -1,12 +1,13 @@
 -- `started_after` meets its contract, either way of its test.
-use borrow.Author.Tests.{ne_eqb, eq-eqb}
+use mathlib.Core.Path.{sym, ◌∙◌}
+use Rattle.timer.proofs.Numbers.{any_same_by_number}
 use Rattle.judge_time.specs.Clock.{started_at}
 use Rattle.judge_time.proofs.started_after.Goals as goal
 
-pub returns-then-after-before : goal.returns-then-after-before
+pub returns-then-eq : goal.returns-then-eq
 unfolding started_at
-returns-then-after-before c = rw (eq-eqb _ _ c.if-after-before.true)
+returns-then-eq c = rw (sym (any_same_by_number c.args.after c.args.before) ∙ sym c.eq.ensures ∙ c.if-eq.true)
 
 pub returns : goal.returns
 unfolding started_at
-returns c = rw (ne_eqb _ _ c.if-after-before.false)
+returns c = rw (sym (any_same_by_number c.args.after c.args.before) ∙ sym c.eq.ensures ∙ c.if-eq.false)
