@@ -8,7 +8,7 @@ use crate::protocol::Protocol;
 
 // The states of the mobile station's side. U2 and U6 are a broadcast call's. A group call has sub-states in their place, in 24.068's order: separate link (U2sl), wait
 // for receive mode (U2wr), receive mode (U2r), wait for send and receive mode (U2ws), send and receive mode (U2sr), no channel (U2nc).
-#[derive(Clone, Copy)]
+#[derive(Clone, Copy, PartialEq)]
 pub enum State {
     U0,
     U0p,

@@ -224,6 +224,7 @@ fn in_u6(table: Table, context: Context, number: u8) -> Decision
 }
 
 // An event that is no message, in the context's state, by the tables of broadcast calls. The sub-states of U2 have no row: these tables are of broadcast calls.
+#[tactic(auto, unfolding(transitions::specs::Table::happened_in))]
 fn happened(table: Table, context: Context, number: u8) -> Decision
     ensures { result ≡ happened_in (rows_of Broadcast table) context.state context number }
 {
@@ -237,12 +238,7 @@ fn happened(table: Table, context: Context, number: u8) -> Decision
         State::U4 => in_u4(table, context, number),
         State::U5 => in_u5(table, context, number),
         State::U6 => in_u6(table, context, number),
-        State::U2sl => Decision::NoStep,
-        State::U2wr => Decision::NoStep,
-        State::U2r => Decision::NoStep,
-        State::U2ws => Decision::NoStep,
-        State::U2sr => Decision::NoStep,
-        State::U2nc => Decision::NoStep,
+        _ => Decision::NoStep,
     }
 }
 

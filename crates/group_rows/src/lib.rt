@@ -468,6 +468,7 @@ fn in_u5(context: Context, number: u8) -> Decision
 }
 
 // What the table says of an event that is no message, in the context's state. U2 and U6 are no states of a group call.
+#[tactic(auto, unfolding(transitions::specs::Table::happened_in))]
 pub fn happened(context: Context, number: u8) -> Decision
     ensures { result ≡ happened_in (rows_of Group Table.Group) context.state context number }
 {
@@ -476,11 +477,10 @@ pub fn happened(context: Context, number: u8) -> Decision
         State::U0 => in_u0(context, number),
         State::U0p => in_u0p(context, number),
         State::U1 => in_u1(context, number),
-        State::U2 => Decision::NoStep,
+        State::U2 | State::U6 => Decision::NoStep,
         State::U3 => in_u3(context, number),
         State::U4 => in_u4(context, number),
         State::U5 => in_u5(context, number),
-        State::U6 => Decision::NoStep,
         State::U2sl => in_u2sl(context, number),
         State::U2wr => in_u2wr(context, number),
         State::U2r => in_u2r(context, number),
@@ -501,71 +501,75 @@ fn connected_in_u1(context: Context) -> Decision
     CONNECTED
 }
 
+#[tactic(auto, unfolding(transitions::specs::Table::heard_in))]
 fn heard_in_u0p(context: Context, code: u8) -> Decision
     ensures { result ≡ heard_in (rows_of Group Table.Group) U0p context code }
 {
     match code {
-        message_type::IMMEDIATE_SETUP => INCOMPATIBLE,
-        message_type::SETUP => INCOMPATIBLE,
         message_type::CONNECT => CONNECTED,
         message_type::TERMINATION => TERMINATED,
-        message_type::TERMINATION_REQUEST => INCOMPATIBLE,
-        message_type::TERMINATION_REJECT => INCOMPATIBLE,
-        message_type::STATUS => INCOMPATIBLE,
         message_type::GET_STATUS => staying(State::U0p, Note::StatusPends),
         message_type::SET_PARAMETER => Decision::SetParameters,
+        message_type::IMMEDIATE_SETUP
+        | message_type::SETUP
+        | message_type::TERMINATION_REQUEST
+        | message_type::TERMINATION_REJECT
+        | message_type::STATUS => INCOMPATIBLE,
         0..=48 | 55..=55 | 59..=255 => UNKNOWN,
     }
 }
 
+#[tactic(auto, unfolding(transitions::specs::Table::heard_in))]
 fn heard_in_u1(context: Context, code: u8) -> Decision
     ensures { result ≡ heard_in (rows_of Group Table.Group) U1 context code }
 {
     match code {
-        message_type::IMMEDIATE_SETUP => INCOMPATIBLE,
-        message_type::SETUP => INCOMPATIBLE,
         message_type::CONNECT => connected_in_u1(context),
         message_type::TERMINATION => TERMINATED,
-        message_type::TERMINATION_REQUEST => INCOMPATIBLE,
-        message_type::TERMINATION_REJECT => INCOMPATIBLE,
-        message_type::STATUS => INCOMPATIBLE,
         message_type::GET_STATUS => staying(State::U1, Note::StatusPends),
         message_type::SET_PARAMETER => Decision::SetParameters,
+        message_type::IMMEDIATE_SETUP
+        | message_type::SETUP
+        | message_type::TERMINATION_REQUEST
+        | message_type::TERMINATION_REJECT
+        | message_type::STATUS => INCOMPATIBLE,
         0..=48 | 55..=55 | 59..=255 => UNKNOWN,
     }
 }
 
+#[tactic(auto, unfolding(transitions::specs::Table::heard_in))]
 fn heard_in_u2r(context: Context, code: u8) -> Decision
     ensures { result ≡ heard_in (rows_of Group Table.Group) U2r context code }
 {
     match code {
-        message_type::IMMEDIATE_SETUP => INCOMPATIBLE,
-        message_type::SETUP => INCOMPATIBLE,
-        message_type::CONNECT => INCOMPATIBLE,
         message_type::TERMINATION => TERMINATED,
-        message_type::TERMINATION_REQUEST => INCOMPATIBLE,
-        message_type::TERMINATION_REJECT => INCOMPATIBLE,
-        message_type::STATUS => INCOMPATIBLE,
         message_type::GET_STATUS => STATUS_IN_U2R,
         message_type::SET_PARAMETER => Decision::SetParameters,
+        message_type::IMMEDIATE_SETUP
+        | message_type::SETUP
+        | message_type::CONNECT
+        | message_type::TERMINATION_REQUEST
+        | message_type::TERMINATION_REJECT
+        | message_type::STATUS => INCOMPATIBLE,
         0..=48 | 55..=55 | 59..=255 => UNKNOWN,
     }
 }
 
+#[tactic(auto, unfolding(transitions::specs::Table::heard_in))]
 fn heard_in_u5(context: Context, code: u8) -> Decision
     ensures { result ≡ heard_in (rows_of Group Table.Group) U5 context code }
 {
     let remembered = context.remembered;
     match code {
-        message_type::IMMEDIATE_SETUP => INCOMPATIBLE,
-        message_type::SETUP => INCOMPATIBLE,
-        message_type::CONNECT => INCOMPATIBLE,
         message_type::TERMINATION => TERMINATED,
-        message_type::TERMINATION_REQUEST => INCOMPATIBLE,
         message_type::TERMINATION_REJECT => returned(remembered),
-        message_type::STATUS => INCOMPATIBLE,
         message_type::GET_STATUS => staying(State::U5, Note::StatusPends),
         message_type::SET_PARAMETER => Decision::SetParameters,
+        message_type::IMMEDIATE_SETUP
+        | message_type::SETUP
+        | message_type::CONNECT
+        | message_type::TERMINATION_REQUEST
+        | message_type::STATUS => INCOMPATIBLE,
         0..=48 | 55..=55 | 59..=255 => UNKNOWN,
     }
 }
@@ -575,15 +579,15 @@ fn heard_staying(state: State, code: u8) -> Decision
     ensures { result ≡ rows code (Report 97) (staying_types state) }
 {
     match code {
-        message_type::IMMEDIATE_SETUP => INCOMPATIBLE,
-        message_type::SETUP => INCOMPATIBLE,
-        message_type::CONNECT => INCOMPATIBLE,
         message_type::TERMINATION => TERMINATED,
-        message_type::TERMINATION_REQUEST => INCOMPATIBLE,
-        message_type::TERMINATION_REJECT => INCOMPATIBLE,
-        message_type::STATUS => INCOMPATIBLE,
         message_type::GET_STATUS => staying(state, Note::StatusPends),
         message_type::SET_PARAMETER => Decision::SetParameters,
+        message_type::IMMEDIATE_SETUP
+        | message_type::SETUP
+        | message_type::CONNECT
+        | message_type::TERMINATION_REQUEST
+        | message_type::TERMINATION_REJECT
+        | message_type::STATUS => INCOMPATIBLE,
         0..=48 | 55..=55 | 59..=255 => UNKNOWN,
     }
 }
@@ -593,20 +597,21 @@ fn heard_nowhere(code: u8) -> Decision
     ensures { result ≡ rows code (Report 97) (sentences ++ incompatible) }
 {
     match code {
-        message_type::IMMEDIATE_SETUP => INCOMPATIBLE,
-        message_type::SETUP => INCOMPATIBLE,
-        message_type::CONNECT => INCOMPATIBLE,
-        message_type::TERMINATION => INCOMPATIBLE,
-        message_type::TERMINATION_REQUEST => INCOMPATIBLE,
-        message_type::TERMINATION_REJECT => INCOMPATIBLE,
-        message_type::STATUS => INCOMPATIBLE,
         message_type::GET_STATUS => Decision::TellStatus,
         message_type::SET_PARAMETER => Decision::SetParameters,
+        message_type::IMMEDIATE_SETUP
+        | message_type::SETUP
+        | message_type::CONNECT
+        | message_type::TERMINATION
+        | message_type::TERMINATION_REQUEST
+        | message_type::TERMINATION_REJECT
+        | message_type::STATUS => INCOMPATIBLE,
         0..=48 | 55..=55 | 59..=255 => UNKNOWN,
     }
 }
 
 // What the table says of a message of a type in the context's state.
+#[tactic(auto, unfolding(transitions::specs::Table::decided_by, transitions::specs::Table::decided_in, transitions::specs::Table::heard_in))]
 pub fn heard(context: Context, code: u8) -> Decision
     ensures { result ≡ decided_by (rows_of Group Table.Group) context 18 code }
 {
@@ -615,16 +620,9 @@ pub fn heard(context: Context, code: u8) -> Decision
         State::U0 => Decision::Ignore,
         State::U0p => heard_in_u0p(context, code),
         State::U1 => heard_in_u1(context, code),
-        State::U2 => heard_nowhere(code),
-        State::U3 => heard_staying(State::U3, code),
-        State::U4 => heard_staying(State::U4, code),
         State::U5 => heard_in_u5(context, code),
-        State::U6 => heard_nowhere(code),
-        State::U2sl => heard_staying(State::U2sl, code),
-        State::U2wr => heard_staying(State::U2wr, code),
         State::U2r => heard_in_u2r(context, code),
-        State::U2ws => heard_staying(State::U2ws, code),
-        State::U2sr => heard_staying(State::U2sr, code),
-        State::U2nc => heard_staying(State::U2nc, code),
+        State::U2 | State::U6 => heard_nowhere(code),
+        _ => heard_staying(state, code),
     }
 }

@@ -1,7 +1,7 @@
 // A log's entries from a cleared context on, each taken through its step once more: a line for each whose message is ignored, and how many are for each reason.
 use crate::reason::tell_particulars;
 use codes::protocol::Protocol;
-use context::{Context, state_number};
+use context::Context;
 use fields::{fault_number, octet_at};
 use log_entry::read_entry;
 use log_words::entry::{tell_time, write_reason, write_state_name};
@@ -92,11 +92,10 @@ fn tell_passed(
     if passed.reason == 0 {
         return;
     }
-    let state = context.state;
     tell(b"entry ");
     tell_place(passed.number);
     tell_time(passed.time);
-    write_state_name(STDOUT_FILENO, (state_number(state) % 256) as u8);
+    write_state_name(STDOUT_FILENO, context.state as u8);
     tell(b", ");
     tell_kind(protocol, octets);
     tell(b" ignored (");

@@ -94,15 +94,14 @@ fn returned(remembered: Remembered) -> Decision
 }
 
 // TERMINATION REJECT in U5.
+#[tactic(auto, unfolding(transitions::specs::Table::heard_in))]
 fn rejected(table: Table, context: Context) -> Decision
     ensures { result ≡ heard_in (rows_of Broadcast table) U5 context TERMINATION-REJECT }
 {
     let remembered = context.remembered;
     match table {
         Table::First => REJECTED,
-        Table::Second => returned(remembered),
-        Table::Third => returned(remembered),
-        Table::Group => returned(remembered),
+        _ => returned(remembered),
     }
 }
 
@@ -118,96 +117,102 @@ fn connected_in_u1(table: Table, context: Context) -> Decision
 }
 
 // A message in U0.p.
+#[tactic(auto, unfolding(transitions::specs::Table::heard_in))]
 fn heard_in_u0p(table: Table, context: Context, code: u8) -> Decision
     ensures { result ≡ heard_in (rows_of Broadcast table) U0p context code }
 {
     match code {
-        message_type::IMMEDIATE_SETUP => INCOMPATIBLE,
-        message_type::SETUP => INCOMPATIBLE,
         message_type::CONNECT => CONNECTED,
         message_type::TERMINATION => TERMINATED,
-        message_type::TERMINATION_REQUEST => INCOMPATIBLE,
-        message_type::TERMINATION_REJECT => INCOMPATIBLE,
-        message_type::STATUS => INCOMPATIBLE,
         message_type::GET_STATUS => Decision::TellStatus,
         message_type::SET_PARAMETER => Decision::SetParameters,
+        message_type::IMMEDIATE_SETUP
+        | message_type::SETUP
+        | message_type::TERMINATION_REQUEST
+        | message_type::TERMINATION_REJECT
+        | message_type::STATUS => INCOMPATIBLE,
         0..=48 | 55..=55 | 59..=255 => UNKNOWN,
     }
 }
 
 // A message in U1.
+#[tactic(auto, unfolding(transitions::specs::Table::heard_in))]
 fn heard_in_u1(table: Table, context: Context, code: u8) -> Decision
     ensures { result ≡ heard_in (rows_of Broadcast table) U1 context code }
 {
     match code {
-        message_type::IMMEDIATE_SETUP => INCOMPATIBLE,
-        message_type::SETUP => INCOMPATIBLE,
         message_type::CONNECT => connected_in_u1(table, context),
         message_type::TERMINATION => TERMINATED,
-        message_type::TERMINATION_REQUEST => INCOMPATIBLE,
-        message_type::TERMINATION_REJECT => INCOMPATIBLE,
-        message_type::STATUS => INCOMPATIBLE,
         message_type::GET_STATUS => Decision::TellStatus,
         message_type::SET_PARAMETER => Decision::SetParameters,
+        message_type::IMMEDIATE_SETUP
+        | message_type::SETUP
+        | message_type::TERMINATION_REQUEST
+        | message_type::TERMINATION_REJECT
+        | message_type::STATUS => INCOMPATIBLE,
         0..=48 | 55..=55 | 59..=255 => UNKNOWN,
     }
 }
 
 // A message in U5.
+#[tactic(auto, unfolding(transitions::specs::Table::heard_in))]
 fn heard_in_u5(table: Table, context: Context, code: u8) -> Decision
     ensures { result ≡ heard_in (rows_of Broadcast table) U5 context code }
 {
     match code {
-        message_type::IMMEDIATE_SETUP => INCOMPATIBLE,
-        message_type::SETUP => INCOMPATIBLE,
-        message_type::CONNECT => INCOMPATIBLE,
         message_type::TERMINATION => TERMINATED,
-        message_type::TERMINATION_REQUEST => INCOMPATIBLE,
         message_type::TERMINATION_REJECT => rejected(table, context),
-        message_type::STATUS => INCOMPATIBLE,
         message_type::GET_STATUS => Decision::TellStatus,
         message_type::SET_PARAMETER => Decision::SetParameters,
+        message_type::IMMEDIATE_SETUP
+        | message_type::SETUP
+        | message_type::CONNECT
+        | message_type::TERMINATION_REQUEST
+        | message_type::STATUS => INCOMPATIBLE,
         0..=48 | 55..=55 | 59..=255 => UNKNOWN,
     }
 }
 
 // A message in U2, and so in U3, U4 and U6.
+#[tactic(auto, unfolding(transitions::specs::Table::heard_in))]
 fn heard_elsewhere(table: Table, context: Context, code: u8) -> Decision
     ensures { result ≡ heard_in (rows_of Broadcast table) U2 context code }
 {
     match code {
-        message_type::IMMEDIATE_SETUP => INCOMPATIBLE,
-        message_type::SETUP => INCOMPATIBLE,
-        message_type::CONNECT => INCOMPATIBLE,
         message_type::TERMINATION => TERMINATED,
-        message_type::TERMINATION_REQUEST => INCOMPATIBLE,
-        message_type::TERMINATION_REJECT => INCOMPATIBLE,
-        message_type::STATUS => INCOMPATIBLE,
         message_type::GET_STATUS => Decision::TellStatus,
         message_type::SET_PARAMETER => Decision::SetParameters,
+        message_type::IMMEDIATE_SETUP
+        | message_type::SETUP
+        | message_type::CONNECT
+        | message_type::TERMINATION_REQUEST
+        | message_type::TERMINATION_REJECT
+        | message_type::STATUS => INCOMPATIBLE,
         0..=48 | 55..=55 | 59..=255 => UNKNOWN,
     }
 }
 
 // A message in U2sl, and so in every sub-state of U2: these tables have no row of a group call.
+#[tactic(auto, unfolding(transitions::specs::Table::heard_in))]
 fn heard_in_sub_state(table: Table, context: Context, code: u8) -> Decision
     ensures { result ≡ heard_in (rows_of Broadcast table) U2sl context code }
 {
     match code {
-        message_type::IMMEDIATE_SETUP => INCOMPATIBLE,
-        message_type::SETUP => INCOMPATIBLE,
-        message_type::CONNECT => INCOMPATIBLE,
-        message_type::TERMINATION => INCOMPATIBLE,
-        message_type::TERMINATION_REQUEST => INCOMPATIBLE,
-        message_type::TERMINATION_REJECT => INCOMPATIBLE,
-        message_type::STATUS => INCOMPATIBLE,
         message_type::GET_STATUS => Decision::TellStatus,
         message_type::SET_PARAMETER => Decision::SetParameters,
+        message_type::IMMEDIATE_SETUP
+        | message_type::SETUP
+        | message_type::CONNECT
+        | message_type::TERMINATION
+        | message_type::TERMINATION_REQUEST
+        | message_type::TERMINATION_REJECT
+        | message_type::STATUS => INCOMPATIBLE,
         0..=48 | 55..=55 | 59..=255 => UNKNOWN,
     }
 }
 
 // What the tables of broadcast calls say of a message of a type in the context's state.
+#[tactic(auto, unfolding(transitions::specs::Table::decided_by, transitions::specs::Table::decided_in, transitions::specs::Table::heard_in))]
 fn heard(table: Table, context: Context, code: u8) -> Decision
     ensures { result ≡ decided_by (rows_of Broadcast table) context 18 code }
 {
@@ -216,17 +221,10 @@ fn heard(table: Table, context: Context, code: u8) -> Decision
         State::U0 => Decision::Ignore,
         State::U0p => heard_in_u0p(table, context, code),
         State::U1 => heard_in_u1(table, context, code),
-        State::U2 => heard_elsewhere(table, context, code),
-        State::U3 => heard_elsewhere(table, context, code),
-        State::U4 => heard_elsewhere(table, context, code),
         State::U5 => heard_in_u5(table, context, code),
-        State::U6 => heard_elsewhere(table, context, code),
-        State::U2sl => heard_in_sub_state(table, context, code),
-        State::U2wr => heard_in_sub_state(table, context, code),
-        State::U2r => heard_in_sub_state(table, context, code),
-        State::U2ws => heard_in_sub_state(table, context, code),
-        State::U2sr => heard_in_sub_state(table, context, code),
-        State::U2nc => heard_in_sub_state(table, context, code),
+        State::U2 | State::U3 | State::U4 | State::U6 => heard_elsewhere(table, context, code),
+        State::U2sl | State::U2wr | State::U2r | State::U2ws | State::U2sr | State::U2nc =>
+            heard_in_sub_state(table, context, code),
     }
 }
 

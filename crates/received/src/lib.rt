@@ -9,6 +9,7 @@ ghost use Rattle.received.specs.Due.{due_of, understood_due};
 use call::{Due, Event, Reason};
 use codes::cause;
 use codes::protocol::{Protocol, discriminator};
+use codes::state::State;
 use context::Context;
 use message::{Identity, Message, Reading};
 use octets::Run;
@@ -180,8 +181,7 @@ fn understand(
 pub fn listen(table: Table, context: Context, identity: &[u8], mode: u8, octets: &[u8]) -> Due
     ensures { result ≡ due_of table identity.now context mode octets.now }
 {
-    let state = context.state;
-    if context::state_number(state) == 0 {
+    if context.state == State::U0 {
         return Due::Ignored(Reason::NoCall);
     }
     if octets.len() < 2 {
