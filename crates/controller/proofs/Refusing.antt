@@ -37,6 +37,7 @@ use Rattle.record_numbers.specs.Recording.{EntryRecorded}
 use Rattle.judge_numbers.specs.Judging.{at_entry, judgement_of}
 use Rattle.settings_numbers.specs.declared.SettingsRead.{SettingsRead}
 use Rattle.settings_numbers.specs.Configuring.{kept_octets, settings_shown}
+use Rattle.settings_numbers.proofs.Taken.{file_refused}
 
 -- ---- in the terms of the step and of the judge
 
@@ -137,7 +138,4 @@ zeros-refused = out_refused zeros refl
 -- "and no default stands in": a file that is refused leaves the zeros as they are.
 pub no_default : (file settings : List ℕ) (r : SettingsRead) → r ≡ settings_shown (settings_of file) → settings ≡ kept_octets zeros (settings_of file) → (r.answer ≡ 0 → ⊥)
     → AllRefused settings
-unfolding settings_shown kept_octets
-no_default file settings r told kept refused =
-    let n : (settings_of file).answer ≡ 0 → ⊥ = λ z. refused (ap (λ (s : SettingsRead). s.answer) told ∙ z) in
-    rw (kept, ne_eqb (settings_of file).answer 0 n) zeros-refused
+no_default file settings r told kept refused = rw ((file_refused file zeros settings r told kept refused).kept) zeros-refused

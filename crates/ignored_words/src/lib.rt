@@ -16,18 +16,16 @@ use message::Own;
 use replay::own_of;
 use saying::{STDOUT_FILENO, tell, tell_count, tell_place};
 use settings_values::Settings;
-use settings_words::argument::settings_and_log;
+use settings_words::argument::{Ready, settings_and_log};
 use text::words::part;
 
 // The word `ignored`.
 pub fn run_ignored(rt: &HostRuntime) -> u8 {
     let mut log = log_room();
-    let ready = settings_and_log(rt, b"ignored", &mut log);
-    if ready.verdict != 0 {
-        return ready.verdict;
-    }
-    let settings = ready.settings;
-    let count = ready.count;
+    let Ready { settings, count } = match settings_and_log(rt, b"ignored", &mut log) {
+        Ok(ready) => ready,
+        Err(verdict) => return verdict,
+    };
     tell_ignored(settings, part(&log, 0, count))
 }
 

@@ -16,7 +16,7 @@ use refusal::tell_refusal;
 use replay::own_of;
 use saying::{tell, tell_count, tell_place};
 use settings_values::Settings;
-use settings_words::argument::settings_and_log_behind;
+use settings_words::argument::{Ready, settings_and_log_behind};
 use text::words::part;
 use timer::Window;
 use verdict::{Invitation, Judged};
@@ -25,12 +25,15 @@ use verdict::{Invitation, Judged};
 pub fn run_judge(rt: &HostRuntime) -> u8 {
     let strict = has_option(rt, 2, b"--settings-timers");
     let mut log = log_room();
-    let ready = settings_and_log_behind(rt, b"judge", options(strict), &mut log);
-    if ready.verdict != 0 {
-        return ready.verdict;
-    }
-    let settings = ready.settings;
-    let count = ready.count;
+    let Ready { settings, count } = match settings_and_log_behind(
+        rt,
+        b"judge",
+        options(strict),
+        &mut log,
+    ) {
+        Ok(ready) => ready,
+        Err(verdict) => return verdict,
+    };
     tell_argument(rt, std::num::wrapping_add_usize(options(strict), 3));
     tell(b": ");
     tell_judged(strict, settings, part(&log, 0, count))

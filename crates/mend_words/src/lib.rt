@@ -10,7 +10,7 @@ use replay::own_of;
 use saying::shown::tell_name;
 use saying::{tell, tell_count};
 use settings_values::Settings;
-use settings_words::argument::settings_before_log;
+use settings_words::argument::{Ready, settings_before_log};
 use text::words::part;
 
 // The word `mend`.
@@ -24,12 +24,10 @@ pub fn run_mend(rt: &HostRuntime) -> u8 {
         return 2;
     }
     let mut log = log_room();
-    let ready = settings_before_log(rt, b"mend", 0, &mut log);
-    if ready.verdict != 0 {
-        return ready.verdict;
-    }
-    let settings = ready.settings;
-    let count = ready.count;
+    let Ready { settings, count } = match settings_before_log(rt, b"mend", 0, &mut log) {
+        Ok(ready) => ready,
+        Err(verdict) => return verdict,
+    };
     mend_log(rt, settings, part(&log, 0, count))
 }
 

@@ -19,12 +19,10 @@ fn run_record(rt: &HostRuntime) -> u8 {
     ) {
         return 2;
     }
-    let fitted = settings_argument(rt, b"record");
-    if fitted.verdict != 0 {
-        return fitted.verdict;
+    match settings_argument(rt, b"record") {
+        Ok(settings) => record_log(rt, settings),
+        Err(verdict) => verdict,
     }
-    let settings = fitted.settings;
-    record_log(rt, settings)
 }
 
 // The script and the log that `record` makes of it.

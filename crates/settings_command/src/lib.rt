@@ -1,7 +1,6 @@
 // The command `settings OCTETS` of the probe: what reading a settings file comes to, in numbers.
 #![tactic(auto)]
 
-use codes::answer;
 use fields::malformed;
 use fields::words::octets_word;
 use saying::{say, say_decimal, say_hex, say_number};
@@ -27,14 +26,14 @@ pub fn answer_settings(
 }
 
 fn say_reading(buffer: &mut [u8], output: Output, file: &[u8]) -> Output {
-    let read = read_settings(file);
-    let settings = read.settings;
-    if read.answer == answer::TAKEN {
-        return say_settings(buffer, output, settings);
+    match read_settings(file) {
+        Ok(settings) => say_settings(buffer, output, settings),
+        Err(refusal) => {
+            let answer = say(buffer, output, b"12 ");
+            let number = say_decimal(buffer, answer, refusal.line as u64);
+            say(buffer, number, b"\n")
+        }
     }
-    let answer = say(buffer, output, b"12 ");
-    let number = say_decimal(buffer, answer, read.line as u64);
-    say(buffer, number, b"\n")
 }
 
 fn say_settings(buffer: &mut [u8], output: Output, settings: Settings) -> Output {

@@ -91,7 +91,6 @@ fn ends_with_return(line: &[u8]) -> bool {
 
 fn tell_mend(fault: Fault) {
     match fault {
-        Fault::Fine => tell(b"nothing is wrong"),
         Fault::NoLineFeed => tell(b"the file ends without LF: end this line too with a line end"),
         Fault::UnknownName => tell(
             b"a line starts with cksn= or classmark= or identity= or conn_req_ms= or present_ms=, in lower case, without a space; no line is empty",

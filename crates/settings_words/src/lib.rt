@@ -5,37 +5,40 @@ pub mod argument;
 mod fault;
 pub mod line;
 
-use codes::answer;
 use fault::{tell_fault, tell_too_long};
 use saying::shown::tell_name;
 use saying::{STDOUT_FILENO, tell, tell_hex, tell_number, tell_place};
-use settings::ReadSettings;
+use settings::Refusal;
 use settings_line::Fault;
 use settings_values::Settings;
 use text::words::part;
 
 // Tells what was read of `file`, the bytes of the file at `path`, and answers the verdict. `whole` is false where the file has more bytes
 // than these.
-pub fn tell_settings(path: &[u8], file: &[u8], whole: bool, read: ReadSettings) -> u8 {
-    let line = read.line;
-    let fault = read.fault;
-    let settings = read.settings;
+pub fn tell_settings(path: &[u8], file: &[u8], whole: bool, read: Result<Settings, Refusal>) -> u8 {
     tell_name(path);
-    if whole {
-        if read.answer == answer::TAKEN {
-            return tell_read(settings);
+    match read {
+        Ok(settings) if whole => tell_read(settings),
+        // Not of a file that goes on: settings that can be read are a whole file, and a short one.
+        Ok(_) => tell_too_long(file, 0),
+        Err(refusal) if whole || stays(refusal.fault) => {
+            tell_fault(file, refusal.line, refusal.fault)
         }
-        return tell_fault(file, line, fault);
+        Err(refusal) => tell_too_long(file, refusal.line),
     }
+}
+
+// A fault of a line stays one however the file goes on; that a line has no LF, or a name no line, may be because the file was cut.
+fn stays(fault: Fault) -> bool {
     match fault {
-        Fault::UnknownName => tell_fault(file, line, fault),
-        Fault::BadKey => tell_fault(file, line, fault),
-        Fault::BadClassmark => tell_fault(file, line, fault),
-        Fault::BadIdentity => tell_fault(file, line, fault),
-        Fault::BadJoining => tell_fault(file, line, fault),
-        Fault::BadInvitation => tell_fault(file, line, fault),
-        Fault::Repeated => tell_fault(file, line, fault),
-        _ => tell_too_long(file, line),
+        Fault::UnknownName
+        | Fault::BadKey
+        | Fault::BadClassmark
+        | Fault::BadIdentity
+        | Fault::BadJoining
+        | Fault::BadInvitation
+        | Fault::Repeated => true,
+        _ => false,
     }
 }
 
