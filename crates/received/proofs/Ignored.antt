@@ -44,12 +44,12 @@ split false yes_way no_way = no_way refl
 
 module _ (holds : Reason → Bool) where
   -- No reason of a list holds.
-  abbrev pub None : List Reason → Type 0
-  None [] = Unit {0}
-  None (reason ∷ more) = (holds reason ≡ false) × None more
+  abbrev pub NoneHolds : List Reason → Type 0
+  NoneHolds [] = Unit {0}
+  NoneHolds (reason ∷ more) = (holds reason ≡ false) × NoneHolds more
 
   -- A reason that holds where none before it does is given,
-  pub given : (before after : List Reason) (reason : Reason) → None before → holds reason ≡ true → first_in holds (before ++ (reason ∷ after)) ≡ reason_number reason
+  pub given : (before after : List Reason) (reason : Reason) → NoneHolds before → holds reason ≡ true → first_in holds (before ++ (reason ∷ after)) ≡ reason_number reason
   unfolding first_in
   given [] after reason none e = rw e
   given (first ∷ before) after reason none e = rw none.0 (given before after reason none.1 e)
