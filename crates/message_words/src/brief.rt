@@ -2,7 +2,7 @@
 use crate::faults::tell_fault;
 use codes::attributes::parameters_of;
 use codes::protocol::Protocol;
-use codes::state::{CallState, call_state_of};
+use codes::state::call_state_of;
 use fields::{fault_number, octet_at};
 use message::{Fault, Message, Unread};
 use octets::{Reference, Run};
@@ -161,8 +161,8 @@ fn tell_first_part(first: u8) {
 fn tell_call_state(protocol: Protocol, code: u8) {
     tell(b", call state ");
     match call_state_of(protocol, code) {
-        CallState::Is(state) => tell_state(protocol, state),
-        CallState::Reserved => tell_reserved(code),
+        Some(state) => tell_state(protocol, state),
+        None => tell_reserved(code),
     }
 }
 
