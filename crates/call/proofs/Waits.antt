@@ -12,7 +12,8 @@ use Rattle.std.specs.Prelude.{None}
 use Rattle.codes.specs.declared.state.State.{State}
 use Rattle.codes.specs.declared.state.State.TheVariants.{U0, U0p, U1, U2, U3, U4, U5, U6, U2sl, U2wr, U2r, U2ws, U2sr, U2nc}
 use Rattle.codes.specs.MessageTypes.{GET-STATUS}
-use Rattle.message.specs.declared.Identity.{Identity}
+use Rattle.std.specs.Prelude.{Option}
+use Rattle.octets.specs.declared.Run.{Run}
 use Rattle.message.specs.declared.Message.TheVariants.{GetStatus}
 use Rattle.timer.specs.declared.Timer.TheVariants.{Term}
 use Rattle.timer.specs.declared.Timers.{Timers}
@@ -260,7 +261,7 @@ module _ (x : Context) where
 
 -- ---- 6.5.1.1: GET STATUS
 
-module _ (x : Context) (fit : fit_of Group x ≡ true) (called : same x.state U0 ≡ false) (mode value : ℕ) (identity : Identity) where
+module _ (x : Context) (fit : fit_of Group x ≡ true) (called : same x.state U0 ≡ false) (mode value : ℕ) (identity : Option Run) where
   abbrev asks : Seen
   asks = heard GET-STATUS value no_reference 0
 

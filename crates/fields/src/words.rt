@@ -2,7 +2,6 @@
 // command takes all its fields and then asks once whether the line was good (text::words::finished).
 ghost use Rattle.std.specs.Prelude.{◌≤◌};
 
-use message::Half;
 use octets::Reference;
 use text::decimal::number_of;
 use text::hex::read_hex;
@@ -22,7 +21,7 @@ pub struct SmallWord {
 
 #[derive(Clone, Copy)]
 pub struct HalfWord {
-    pub half: Half,
+    pub half: Option<u8>,
     pub words: Words,
 }
 
@@ -87,14 +86,14 @@ pub fn half_word(line: &[u8], words: Words) -> HalfWord {
     if is_dash(line, words) {
         let next = passed(line, words);
         return HalfWord {
-            half: Half::Absent,
+            half: None,
             words: next,
         };
     }
     let small = small_word(line, words, 255);
     let next = small.words;
     HalfWord {
-        half: Half::Present(small.value),
+        half: Some(small.value),
         words: next,
     }
 }

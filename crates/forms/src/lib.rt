@@ -16,7 +16,6 @@ ghost use Rattle.std.specs.Prelude.{◌≤◌};
 
 use fields::octet_at;
 use fields::words::{half_word, number_word, octets_word};
-use message::Half;
 use saying::{say, say_hex, say_number};
 use text::output::Output;
 use text::words::{Words, next_word, part};
@@ -105,25 +104,15 @@ fn take_octets(
     word.words
 }
 
-fn is_there(half: Half) -> u8 {
-    match half {
-        Half::Absent => 0,
-        Half::Present(_) => 1,
-    }
-}
-
-fn value_of(half: Half) -> u8 {
-    match half {
-        Half::Absent => 0,
-        Half::Present(value) => value,
-    }
-}
-
 fn take_half(line: &[u8], words: Words, record: &mut [u8; 36], at: usize) -> Words {
     let word = half_word(line, words);
     let half = word.half;
-    set(record, at, is_there(half));
-    set(record, std::num::wrapping_add_usize(at, 1), value_of(half));
+    set(record, at, half.is_some() as u8);
+    set(
+        record,
+        std::num::wrapping_add_usize(at, 1),
+        half.unwrap_or(0),
+    );
     word.words
 }
 

@@ -5,7 +5,7 @@ use context::Context;
 use fields::{fault_number, octet_at};
 use log_entry::read_entry;
 use log_words::entry::{tell_time, write_reason, write_state_name};
-use message::{Own, Reading};
+use message::{Own, Unread};
 use replay::{message_of, step_entry};
 use saying::describe::write_kind;
 use saying::{STDOUT_FILENO, tell, tell_count, tell_octet, tell_place};
@@ -128,12 +128,8 @@ fn tell_kind(protocol: Protocol, octets: &[u8]) {
 // The number of a message's fault, and 0 where it has none. No log holds a message that is too long.
 fn fault_of(protocol: Protocol, octets: &[u8]) -> u8 {
     match message::read(protocol, octets) {
-        Reading::Is {
-            flag: _,
-            value: _,
-            message: _,
-        } => 0,
-        Reading::Unreadable(fault) => fault_number(fault),
-        Reading::TooLong => 1,
+        Ok(_) => 0,
+        Err(Unread::Unreadable(fault)) => fault_number(fault),
+        Err(Unread::TooLong) => 1,
     }
 }

@@ -10,10 +10,10 @@ ghost use Rattle.std.specs.Prelude.{◌<◌, ◌≤◌, length};
 pub use brief::tell_briefly;
 use codes::message_type;
 use codes::protocol::{Protocol, discriminator};
-use element::{Counted, Found, counted_at, seek};
+use element::{Miscount, counted_at, seek};
 use faults::tell_fault;
 use fields::{fault_number, octet_at};
-use message::{Fault, Message, Reading};
+use message::{Fault, Message, Unread};
 use octets::Run;
 use saying::describe::{
     tell_attributes, tell_call_state, tell_cause, tell_element, tell_kind, tell_places,
@@ -25,13 +25,9 @@ use text::words::part;
 pub fn tell_apart(octets: &[u8]) -> u8 {
     let protocol = protocol_of(octet_at(octets, 0));
     match message::read(protocol, octets) {
-        Reading::TooLong => tell_too_long(octets),
-        Reading::Unreadable(fault) => tell_unreadable(protocol, octets, fault),
-        Reading::Is {
-            flag,
-            value,
-            message,
-        } => tell_message(protocol, octets, flag, value, message),
+        Err(Unread::TooLong) => tell_too_long(octets),
+        Err(Unread::Unreadable(fault)) => tell_unreadable(protocol, octets, fault),
+        Ok(read) => tell_message(protocol, octets, read.flag, read.value, read.message),
     }
 }
 
@@ -285,20 +281,17 @@ fn element_end(octets: &[u8], at: usize) -> usize
     if 128 <= octets[at] {
         return at + 1;
     }
-    match counted_at(octets, at + 1, 0, 255) {
-        Counted::Octets(run) => {
-            let end = std::num::wrapping_add_usize(run.start, run.count);
-            if end <= at {
-                return octets.len();
-            }
-            if octets.len() < end {
-                return octets.len();
-            }
-            end
-        }
-        Counted::CutShort => octets.len(),
-        Counted::WrongLength => octets.len(),
+    let Ok(run) = counted_at(octets, at + 1, 0, 255) else {
+        return octets.len();
+    };
+    let end = std::num::wrapping_add_usize(run.start, run.count);
+    if end <= at {
+        return octets.len();
     }
+    if octets.len() < end {
+        return octets.len();
+    }
+    end
 }
 
 // What stands behind the mandatory part, element by element.
@@ -314,10 +307,7 @@ fn tell_optional(octets: &[u8], from: usize, kind: u8) {
 
 // Whether the element at `at` is the first one from `from` on whose identifier is `low` to `high`.
 fn is_first(octets: &[u8], from: usize, at: usize, low: u8, high: u8) -> bool {
-    match seek(octets, from, low, high) {
-        Found::At(place, _) => place == at,
-        Found::Nothing => false,
-    }
+    seek(octets, from, low, high).is_some_and(|(place, _)| place == at)
 }
 
 // The mobile identity of GET STATUS, the call state and the state attributes of STATUS, the first of each; any other element is skipped.
@@ -341,9 +331,9 @@ fn tell_one(octets: &[u8], from: usize, at: usize, kind: u8) {
 // The first mobile identity of GET STATUS, whose length octet is at `place`: it counts if it has 1 to 8 octets and is whole.
 fn tell_own(octets: &[u8], place: usize) {
     match counted_at(octets, place, 1, 8) {
-        Counted::Octets(run) => tell_identity(octets, run),
-        Counted::CutShort => tell(b"mobile identity, runs past the end, counts as absent\n"),
-        Counted::WrongLength => tell_wrong_identity(octet_at(octets, place)),
+        Ok(run) => tell_identity(octets, run),
+        Err(Miscount::CutShort) => tell(b"mobile identity, runs past the end, counts as absent\n"),
+        Err(Miscount::WrongLength) => tell_wrong_identity(octet_at(octets, place)),
     }
 }
 
@@ -366,11 +356,7 @@ fn is_whole(octets: &[u8], at: usize) -> bool {
     if 128 <= octet_at(octets, at) {
         return true;
     }
-    match counted_at(octets, std::num::wrapping_add_usize(at, 1), 0, 255) {
-        Counted::Octets(_) => true,
-        Counted::CutShort => false,
-        Counted::WrongLength => false,
-    }
+    counted_at(octets, std::num::wrapping_add_usize(at, 1), 0, 255).is_ok()
 }
 
 fn tell_skipped(identifier: u8, whole: bool) {

@@ -8,7 +8,7 @@ use causes::{Cause, cause_said};
 use codes::attributes::parameters_of;
 use codes::message_type;
 use codes::protocol::Protocol;
-use codes::state::{CallState, State, call_state_of};
+use codes::state::{State, call_state_of};
 use text::words::{find, part};
 
 // Where the line behind the one at `at` starts, or the text's end.
@@ -225,8 +225,8 @@ pub fn tell_call_state(protocol: Protocol, code: u8) {
     tell_number(code);
     tell(b", ");
     match call_state_of(protocol, code) {
-        CallState::Is(state) => tell_state(protocol, state),
-        CallState::Reserved => tell(b"reserved"),
+        Some(state) => tell_state(protocol, state),
+        None => tell(b"reserved"),
     }
     tell(b"\n");
 }

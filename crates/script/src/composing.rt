@@ -8,12 +8,12 @@ use crate::{Call, Fault, Unfit};
 use codes::attributes::{Parameters, attributes_of, parameters_of};
 use codes::message_type;
 use codes::protocol::Protocol;
-use message::{Identity, Message};
+use message::Message;
 use octets::{Reference, Run};
 use text::decimal::number_of;
 use text::hex::read_hex;
 use text::words::part;
-use writing::{Wrote, write};
+use writing::write;
 
 // How many octets the message has; or what is wrong, and at which word.
 #[derive(Clone, Copy)]
@@ -96,9 +96,8 @@ fn finish(
         transaction.value,
         message,
     ) {
-        Wrote::Written(count) => Composed::Count(count),
-        Wrote::ShortBuffer => Composed::Torn(Fault::TooLong, noted_word(source, 0)),
-        Wrote::OutOfRange => Composed::Torn(Fault::TooLong, noted_word(source, 0)),
+        Ok(count) => Composed::Count(count),
+        Err(_) => Composed::Torn(Fault::TooLong, noted_word(source, 0)),
     }
 }
 
@@ -148,9 +147,7 @@ fn compose_get_status(
     let word = noted_word(line, place);
     let mut source = [0u8; 8];
     if word.count == 0 {
-        let message = Message::GetStatus {
-            identity: Identity::Absent,
-        };
+        let message = Message::GetStatus { identity: None };
         return finish(protocol, transaction, message, &source, octets);
     }
     let spelt = read_hex(part(line, word.start, word.count), true, &mut source, 0);
@@ -162,7 +159,7 @@ fn compose_get_status(
         count: spelt.count,
     };
     let message = Message::GetStatus {
-        identity: Identity::Present(named),
+        identity: Some(named),
     };
     finish(protocol, transaction, message, &source, octets)
 }

@@ -13,7 +13,7 @@ use Rattle.context.specs.States.{same}
 use Rattle.received.specs.Received.{type_cause}
 use Rattle.received.specs.Due.{due_of}
 use Rattle.received.proofs.Lying.{read-within}
-use Rattle.received.proofs.Rules.{Ours, due_typed, due_read, due_wrong, due_long}
+use Rattle.received.proofs.Rules.{Ours, due_typed, due_read, due_unread}
 use Rattle.received.proofs.listen.Goals as goal
 
 pub returns-then-eq : goal.returns-then-eq
@@ -70,10 +70,10 @@ pub understand-requires : goal.understand-requires
 understand-requires c =
     let read_is : read_message (protocol_of c.args.table) c.args.octets.now ≡ c.read.result =
     sym (c.read.ensures ∙ ap (λ (p : Protocol). read_message p c.args.octets.now) c.protocol-protocol.ensures) in
-    read-within _ _ _ _ _ (read_is ∙ c.in-Is.is)
+    read-within _ _ _ (read_is ∙ c.in-Ok.is)
 
-pub returns-in-Is : goal.returns-in-Is
-returns-in-Is c =
+pub returns : goal.returns
+returns c =
     let in-call : same c.args.context.state U0 ≡ false =
     sym (same_asked (c.args.context).state U0) ∙ sym c.eq.ensures ∙ c.if-eq.false in
     let asked : c.discriminator.result ≡ discriminator (protocol_of c.args.table) =
@@ -89,11 +89,11 @@ returns-in-Is c =
     sym c.type_cause-cause.ensures ∙ c.if-cause-ne0.false in
     let read_is : read_message (protocol_of c.args.table) c.args.octets.now ≡ c.read.result =
     sym (c.read.ensures ∙ ap (λ (p : Protocol). read_message p c.args.octets.now) c.protocol-protocol.ensures) in
-    due_read _ _ _ _ _ (ours) (typed) _ _ _ _ _ c.protocol-protocol.ensures
-    (read_is ∙ c.in-Is.is) c.understand.ensures
+    due_read _ _ _ _ _ (ours) (typed) _ _ _ c.protocol-protocol.ensures
+    (read_is ∙ c.in-Ok.is) c.understand.ensures
 
-pub returns-in-Unreadable : goal.returns-in-Unreadable
-returns-in-Unreadable c =
+pub returns-in_default : goal.returns-in_default
+returns-in_default c =
     let in-call : same c.args.context.state U0 ≡ false =
     sym (same_asked (c.args.context).state U0) ∙ sym c.eq.ensures ∙ c.if-eq.false in
     let asked : c.discriminator.result ≡ discriminator (protocol_of c.args.table) =
@@ -109,23 +109,4 @@ returns-in-Unreadable c =
     sym c.type_cause-cause.ensures ∙ c.if-cause-ne0.false in
     let read_is : read_message (protocol_of c.args.table) c.args.octets.now ≡ c.read.result =
     sym (c.read.ensures ∙ ap (λ (p : Protocol). read_message p c.args.octets.now) c.protocol-protocol.ensures) in
-    due_wrong _ _ _ _ _ (ours) (typed) _ _ (read_is ∙ c.in-Unreadable.is) refl
-
-pub returns-in-TooLong : goal.returns-in-TooLong
-returns-in-TooLong c =
-    let in-call : same c.args.context.state U0 ≡ false =
-    sym (same_asked (c.args.context).state U0) ∙ sym c.eq.ensures ∙ c.if-eq.false in
-    let asked : c.discriminator.result ≡ discriminator (protocol_of c.args.table) =
-    c.discriminator.ensures ∙ ap discriminator c.protocol-protocol.ensures in
-    let ours : Ours (protocol_of c.args.table) c.args.context c.args.octets.now =
-    record {
-      calling = in-call;
-      two = le-ltb _ _ c.if-octets-lt2.false;
-      discriminated = eq-eqb _ _ (c.if-first-discriminator.false ∙ asked);
-      transacted = sym c.transaction_fits.ensures ∙ c.if-not-transaction_fits.false;
-    } in
-    let typed : type_cause c.args.table c.args.context (get_or c.args.octets.now 1 0) ≡ 0 =
-    sym c.type_cause-cause.ensures ∙ c.if-cause-ne0.false in
-    let read_is : read_message (protocol_of c.args.table) c.args.octets.now ≡ c.read.result =
-    sym (c.read.ensures ∙ ap (λ (p : Protocol). read_message p c.args.octets.now) c.protocol-protocol.ensures) in
-    due_long _ _ _ _ _ (ours) (typed) _ (read_is ∙ c.in-TooLong.is) refl
+    due_unread _ _ _ _ _ (ours) (typed) _ _ (read_is ∙ c.in_default.is) refl
