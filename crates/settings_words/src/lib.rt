@@ -7,6 +7,8 @@ pub mod line;
 
 use codes::answer;
 use fault::{tell_fault, tell_too_long};
+use filing::Filed;
+use filing::ending::Failure;
 use saying::shown::tell_name;
 use saying::{STDOUT_FILENO, tell, tell_hex, tell_number, tell_place};
 use settings::ReadSettings;
@@ -14,9 +16,10 @@ use settings_line::Fault;
 use settings_values::Settings;
 use text::words::part;
 
-// Tells what was read of `file`, the bytes of the file at `path`, and answers the verdict. `whole` is false where the file has more bytes
-// than these.
-pub fn tell_settings(path: &[u8], file: &[u8], whole: bool, read: ReadSettings) -> u8 {
+// Tells what was read of the file at `path`.
+pub fn tell_settings(path: &[u8], file: Filed, read: ReadSettings) -> Result<(), Failure> {
+    let whole = file.whole;
+    let file = file.octets;
     let line = read.line;
     let fault = read.fault;
     let settings = read.settings;
@@ -39,7 +42,7 @@ pub fn tell_settings(path: &[u8], file: &[u8], whole: bool, read: ReadSettings) 
     }
 }
 
-fn tell_read(settings: Settings) -> u8 {
+fn tell_read(settings: Settings) -> Result<(), Failure> {
     let classmark = settings.classmark;
     let identity = settings.identity;
     let count = settings.count;
@@ -55,7 +58,7 @@ fn tell_read(settings: Settings) -> u8 {
     tell_milliseconds(settings.joining);
     tell(b"invitation timer T_pres ");
     tell_milliseconds(settings.invitation);
-    0
+    Ok(())
 }
 
 fn tell_milliseconds(milliseconds: u32) {
