@@ -1,18 +1,13 @@
 // The arguments of a word.
-ghost use Rattle.std.specs.Prelude.{◌≤◌, length};
-
 use saying::complain;
 use saying::shown::tell_name;
 use std::env::{Env, FillError};
-use text::words::{part, same};
 
-// Puts an argument at the start of a lent buffer, and answers how long it is. One that is missing or longer than the buffer has no length.
-pub fn argument(rt: &HostRuntime, place: usize, buffer: &mut [u8]) -> usize
-    ensures { result ≤ length buffer.new }
-{
+// An argument, in a lent buffer. One that is missing or longer than the buffer is empty.
+pub fn argument<'a>(rt: &HostRuntime, place: usize, buffer: &'a mut [u8]) -> &'a [u8] {
     match rt.arg(place, buffer) {
-        Ok(count) => count,
-        Err(_) => 0,
+        Ok(count) => &buffer[..count],
+        Err(_) => &buffer[..0],
     }
 }
 
@@ -53,15 +48,13 @@ pub fn argument_count(rt: &HostRuntime) -> usize {
 // Whether the argument at this place is that option.
 pub fn has_option(rt: &HostRuntime, place: usize, option: &[u8]) -> bool {
     let mut text = io::buffer();
-    let count = argument(rt, place, &mut text);
-    same(part(&text, 0, count), option)
+    argument(rt, place, &mut text) == option
 }
 
 // Tells the file that the argument at this place names.
 pub fn tell_argument(rt: &HostRuntime, place: usize) {
     let mut name = io::buffer();
-    let count = argument(rt, place, &mut name);
-    tell_name(part(&name, 0, count));
+    tell_name(argument(rt, place, &mut name));
 }
 
 // Whether the word has so many arguments; a complaint, which says what it takes, where it has not.

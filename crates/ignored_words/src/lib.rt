@@ -7,6 +7,7 @@ mod reason;
 
 ghost use Rattle.std.specs.Prelude.{◌<◌};
 
+use filing::ending::Failure;
 use filing::log_room;
 use judge_walk::{End, walk};
 pub use listing::list;
@@ -20,23 +21,20 @@ use settings_words::argument::{Ready, settings_and_log};
 use text::words::part;
 
 // The word `ignored`.
-pub fn run_ignored(rt: &HostRuntime) -> u8 {
+pub fn run_ignored(rt: &HostRuntime) -> Result<(), Failure> {
     let mut log = log_room();
-    let Ready { settings, count } = match settings_and_log(rt, b"ignored", &mut log) {
-        Ok(ready) => ready,
-        Err(verdict) => return verdict,
-    };
-    tell_ignored(settings, part(&log, 0, count))
+    let ready = settings_and_log(rt, b"ignored", &mut log)?;
+    tell_ignored(ready.settings, ready.log)
 }
 
 // Lists the ignored messages of a log, and answers the verdict: 0 where the whole log is what the radio does.
-fn tell_ignored(settings: Settings, log: &[u8]) -> u8 {
+fn tell_ignored(settings: Settings, log: &[u8]) -> Result<(), Failure> {
     let identity = settings.identity;
     let count = settings.count;
     tell_walked(own_of(settings), part(&identity, 0, count), log)
 }
 
-fn tell_walked(own: Own, identity: &[u8], log: &[u8]) -> u8 {
+fn tell_walked(own: Own, identity: &[u8], log: &[u8]) -> Result<(), Failure> {
     let walked = walk(own, identity, log);
     let track = walked.track;
     let entries = track.entries;
@@ -45,7 +43,7 @@ fn tell_walked(own: Own, identity: &[u8], log: &[u8]) -> u8 {
     match end {
         End::Finished => {
             tell_listed(own, identity, log, entries);
-            0
+            Ok(())
         }
         End::TooLong => tell_unlisted(b"it has over 65,536 bytes (answer 10)"),
         End::OutOfRange => tell_unlisted(b"the settings are out of range (answer 4)"),
@@ -58,11 +56,11 @@ fn tell_walked(own: Own, identity: &[u8], log: &[u8]) -> u8 {
 }
 
 // A log that is refused before its first octet is read.
-fn tell_unlisted(why: &[u8]) -> u8 {
+fn tell_unlisted(why: &[u8]) -> Result<(), Failure> {
     tell(b"the log is refused: ");
     tell(why);
     tell(b", and nothing of it is listed; see heidezirkel judge\n");
-    1
+    Err(Failure::Refused)
 }
 
 // The list of the entries that are explained.
@@ -73,12 +71,18 @@ fn tell_listed(own: Own, identity: &[u8], log: &[u8], entries: usize) {
 }
 
 // The same of a log that is refused at the entry of this number, which is the one behind them, or at its version.
-fn tell_listed_to(own: Own, identity: &[u8], log: &[u8], entries: usize, number: usize) -> u8 {
+fn tell_listed_to(
+    own: Own,
+    identity: &[u8],
+    log: &[u8],
+    entries: usize,
+    number: usize,
+) -> Result<(), Failure> {
     tell_listed(own, identity, log, entries);
     tell(b"the log is refused at entry ");
     tell_place(number);
     tell(b", and nothing is listed from there on; see heidezirkel judge\n");
-    1
+    Err(Failure::Refused)
 }
 
 // How many messages were ignored for each reason. The first count is of the other entries.

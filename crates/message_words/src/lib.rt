@@ -13,6 +13,7 @@ use codes::protocol::{Protocol, discriminator};
 use element::{Miscount, counted_at, seek};
 use faults::tell_fault;
 use fields::{fault_number, octet_at};
+use filing::ending::Failure;
 use message::{Fault, Message, Unread};
 use octets::Run;
 use saying::describe::{
@@ -22,7 +23,7 @@ use saying::{tell, tell_hex, tell_number, tell_octet, tell_place};
 use text::words::part;
 
 // Takes a message apart, and answers the verdict. Its own discriminator says of which protocol it is.
-pub fn tell_apart(octets: &[u8]) -> u8 {
+pub fn tell_apart(octets: &[u8]) -> Result<(), Failure> {
     let protocol = protocol_of(octet_at(octets, 0));
     match message::read(protocol, octets) {
         Err(Unread::TooLong) => tell_too_long(octets),
@@ -65,11 +66,17 @@ fn tell_flag(flag: bool) {
     tell(b", flag 0, ");
 }
 
-fn tell_message(protocol: Protocol, octets: &[u8], flag: bool, value: u8, message: Message) -> u8 {
+fn tell_message(
+    protocol: Protocol,
+    octets: &[u8],
+    flag: bool,
+    value: u8,
+    message: Message,
+) -> Result<(), Failure> {
     tell_summary(protocol, octets, flag, value);
     tell_heads(octets);
     tell_fields(octets, message);
-    0
+    Ok(())
 }
 
 // Octets 1 and 2, as far as they are there.
@@ -109,22 +116,22 @@ fn tell_second(second: u8) {
 
 // ---- faults
 
-fn tell_too_long(octets: &[u8]) -> u8 {
+fn tell_too_long(octets: &[u8]) -> Result<(), Failure> {
     tell(b"too long (answer 6): the message has ");
     tell_place(octets.len());
     tell(b" octets, and may have at most 251\n");
     tell_heads(octets);
-    1
+    Err(Failure::Refused)
 }
 
-fn tell_unreadable(protocol: Protocol, octets: &[u8], fault: Fault) -> u8 {
+fn tell_unreadable(protocol: Protocol, octets: &[u8], fault: Fault) -> Result<(), Failure> {
     tell(b"unreadable (answer 13, fault ");
     tell_number(fault_number(fault));
     tell(b"): ");
     tell_fault(protocol, octets, fault);
     tell(b"\n");
     tell_heads(octets);
-    1
+    Err(Failure::Refused)
 }
 
 // ---- fields

@@ -2,6 +2,7 @@
 ghost use Rattle.std.specs.Prelude.{◌≤◌, length};
 
 use crate::line::{tell_mark, tell_number_of, tell_text};
+use filing::ending::Failure;
 use saying::{tell, tell_place};
 use settings_line::Fault;
 use text::words::{find, part};
@@ -11,24 +12,24 @@ const LF: u8 = 10;
 const CR: u8 = 13;
 
 // The file is refused at this line. Answers the verdict.
-pub(crate) fn tell_fault(file: &[u8], number: usize, fault: Fault) -> u8 {
+pub(crate) fn tell_fault(file: &[u8], number: usize, fault: Fault) -> Result<(), Failure> {
     tell(b": the settings are refused (answer 12)\n");
     let line = line_of(file, number);
     tell_number_of(number);
     tell_line(line, fault);
     tell_number_of(number);
     tell_wanted(line, fault);
-    1
+    Err(Failure::Refused)
 }
 
 // What was read of the file has no fault but that it does not end there.
-pub(crate) fn tell_too_long(file: &[u8], number: usize) -> u8 {
+pub(crate) fn tell_too_long(file: &[u8], number: usize) -> Result<(), Failure> {
     tell(b": the settings are refused (answer 12)\n");
     tell_number_of(number);
     tell(b"the file goes on here past ");
     tell_place(file.len());
     tell(b" bytes; settings are five lines, each once, and have at most 86 bytes\n");
-    1
+    Err(Failure::Refused)
 }
 
 // ---- the line

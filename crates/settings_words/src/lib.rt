@@ -6,6 +6,8 @@ mod fault;
 pub mod line;
 
 use fault::{tell_fault, tell_too_long};
+use filing::Filed;
+use filing::ending::Failure;
 use saying::shown::tell_name;
 use saying::{STDOUT_FILENO, tell, tell_hex, tell_number, tell_place};
 use settings::Refusal;
@@ -13,9 +15,10 @@ use settings_line::Fault;
 use settings_values::Settings;
 use text::words::part;
 
-// Tells what was read of `file`, the bytes of the file at `path`, and answers the verdict. `whole` is false where the file has more bytes
-// than these.
-pub fn tell_settings(path: &[u8], file: &[u8], whole: bool, read: Result<Settings, Refusal>) -> u8 {
+// Tells what was read of the file at `path`.
+pub fn tell_settings(path: &[u8], file: Filed, read: Result<Settings, Refusal>) -> Result<(), Failure> {
+    let whole = file.whole;
+    let file = file.octets;
     tell_name(path);
     match read {
         Ok(settings) if whole => tell_read(settings),
@@ -42,7 +45,7 @@ fn stays(fault: Fault) -> bool {
     }
 }
 
-fn tell_read(settings: Settings) -> u8 {
+fn tell_read(settings: Settings) -> Result<(), Failure> {
     let classmark = settings.classmark;
     let identity = settings.identity;
     let count = settings.count;
@@ -58,7 +61,7 @@ fn tell_read(settings: Settings) -> u8 {
     tell_milliseconds(settings.joining);
     tell(b"invitation timer T_pres ");
     tell_milliseconds(settings.invitation);
-    0
+    Ok(())
 }
 
 fn tell_milliseconds(milliseconds: u32) {

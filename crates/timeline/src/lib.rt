@@ -14,6 +14,7 @@ mod segment;
 mod survey;
 mod window;
 
+use filing::ending::Failure;
 use band::{Extent, draw_bands, measure};
 use drawing::write_form;
 use filing::{close_file, create_file};
@@ -32,10 +33,10 @@ use version::Table;
 const MOST: usize = version::LONGEST;
 
 // Draws a log, the file `name`, into the new file `path`, and answers the verdict.
-pub fn tell_timeline(rt: &HostRuntime, log: &[u8], name: &[u8], path: &[u8]) -> u8 {
+pub fn tell_timeline(rt: &HostRuntime, log: &[u8], name: &[u8], path: &[u8]) -> Result<(), Failure> {
     if MOST < log.len() {
         complain(b"log over 65,536 bytes (answer 10): nothing of it is drawn\n");
-        return 1;
+        return Err(Failure::Refused);
     }
     let Some((number, at)) = read_number(log, 0) else {
         return refuse_version(log);
@@ -47,32 +48,28 @@ pub fn tell_timeline(rt: &HostRuntime, log: &[u8], name: &[u8], path: &[u8]) -> 
 }
 
 // What has no version is no log, and no picture is made of it.
-fn refuse_version(log: &[u8]) -> u8 {
+fn refuse_version(log: &[u8]) -> Result<(), Failure> {
     write_version_fault(STDERR_FILENO, log);
-    1
+    Err(Failure::Refused)
 }
 
-fn draw_log(rt: &HostRuntime, table: Table, log: &[u8], at: usize, name: &[u8], path: &[u8]) -> u8 {
+fn draw_log(rt: &HostRuntime, table: Table, log: &[u8], at: usize, name: &[u8], path: &[u8]) -> Result<(), Failure> {
     let found = survey_log(table, log, at);
-    let Some(file) = create_file(rt, b"timeline", path) else {
-        return 2;
-    };
+    let file = create_file(rt, b"timeline", path)?;
     let descriptor = file.as_raw_fd();
     let drawn = draw_picture(descriptor, table, log, at, name, found);
     // What can't be written any more shows at the last write.
     let whole = io::write_all(descriptor, b"</svg>\n");
-    if !close_file(rt, b"timeline", path, file, whole) {
-        return 2;
-    }
+    close_file(rt, b"timeline", path, file, whole)?;
     tell_drawn(path, drawn);
     if is_misnamed(file_name(path)) {
         complain_of_name(path);
     }
     if found.broken {
         complain_of_fault(table, log, found);
-        return 1;
+        return Err(Failure::Refused);
     }
-    0
+    Ok(())
 }
 
 // All of the picture but its end.
