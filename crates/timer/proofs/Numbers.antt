@@ -15,7 +15,7 @@ use Rattle.timer.specs.Timers.{timer_row, timer_number, number_of_any, running_t
 
 pub same_by_number : (a b : Timer) → sameb the_type a b ≡ eqb (timer_number a) (timer_number b)
 same_by_number = elim [
-  MmEst ↦ elim [ MmEst ↦ refl | Term ↦ refl | ConnReq ↦ refl | NoChannel ↦ refl | Pres ↦ refl ]
+  | MmEst ↦ elim [ MmEst ↦ refl | Term ↦ refl | ConnReq ↦ refl | NoChannel ↦ refl | Pres ↦ refl ]
   | Term ↦ elim [ MmEst ↦ refl | Term ↦ refl | ConnReq ↦ refl | NoChannel ↦ refl | Pres ↦ refl ]
   | ConnReq ↦ elim [ MmEst ↦ refl | Term ↦ refl | ConnReq ↦ refl | NoChannel ↦ refl | Pres ↦ refl ]
   | NoChannel ↦ elim [ MmEst ↦ refl | Term ↦ refl | ConnReq ↦ refl | NoChannel ↦ refl | Pres ↦ refl ]
