@@ -16,7 +16,7 @@ use near_words::complain_unknown;
 use saying::complain;
 use settings_words::argument::run_settings;
 use text::hex::read_hex;
-use text::words::{part, same};
+use text::words::part;
 
 fn run_message(rt: &HostRuntime) -> u8 {
     if argument_count(rt) < 3 {
@@ -24,35 +24,27 @@ fn run_message(rt: &HostRuntime) -> u8 {
         return 2;
     }
     let mut digits = io::large_buffer();
-    let joined = join(rt, &mut digits);
-    if !joined.good {
+    let Some(count) = join(rt, &mut digits) else {
         return 2;
-    }
+    };
     let mut octets = io::large_buffer();
-    let count = joined.count;
-    let spelt = read_hex(part(&digits, 0, count), true, &mut octets, 0);
-    let total = spelt.count;
+    // The arguments are digits, two an octet, and there is room for them all.
+    let total = read_hex(part(&digits, 0, count), true, &mut octets, 0).unwrap_or(0);
     tell_apart(part(&octets, 0, total))
 }
 
 fn run(rt: &HostRuntime, word: &[u8]) -> u8 {
-    if same(word, b"message") {
-        return run_message(rt);
+    match word {
+        b"message" => run_message(rt),
+        b"judge" => run_judge(rt),
+        b"mend" => run_mend(rt),
+        b"show" => run_show(rt),
+        b"settings" => run_settings(rt),
+        _ => {
+            complain_unknown(word);
+            2
+        }
     }
-    if same(word, b"judge") {
-        return run_judge(rt);
-    }
-    if same(word, b"mend") {
-        return run_mend(rt);
-    }
-    if same(word, b"show") {
-        return run_show(rt);
-    }
-    if same(word, b"settings") {
-        return run_settings(rt);
-    }
-    complain_unknown(word);
-    2
 }
 
 fn main(rt: HostRuntime) {

@@ -9,7 +9,7 @@ ghost use Rattle.std.specs.Prelude.{◌≡◌, length};
 
 use filing::{read_file, write_file};
 use ignored_words::list;
-use making::{Made, make};
+use making::make;
 use message::Own;
 use refusal::tell_too_long;
 use replay::own_of;
@@ -59,7 +59,7 @@ fn record_script(
     log_path: &[u8],
 ) -> u8 {
     let mut log = io::large_buffer();
-    let Made::Whole(entries, used) = make(own, identity, script_path, script, &mut log) else {
+    let Some((entries, used)) = make(own, identity, script_path, script, &mut log) else {
         return 1;
     };
     let verdict = write_log(rt, log_path, part(&log, 0, used), entries);
