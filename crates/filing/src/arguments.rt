@@ -4,7 +4,7 @@ ghost use Rattle.std.specs.Prelude.{◌≤◌, length};
 use saying::complain;
 use saying::shown::tell_name;
 use std::env::{Env, FillError};
-use text::words::{part, same};
+use text::words::part;
 
 // Puts an argument at the start of a lent buffer, and answers how long it is. One that is missing or longer than the buffer has no length.
 pub fn argument(rt: &HostRuntime, place: usize, buffer: &mut [u8]) -> usize
@@ -34,18 +34,14 @@ fn count_all(rt: &HostRuntime) -> usize {
 // Whether the verdict is to go to descriptor 3. bin/heidezirkel asks for it by a last argument; nobody gives that by accident, so nothing that is open there for something
 // else is written to.
 pub(crate) fn verdict_on_3(rt: &HostRuntime) -> bool {
-    has_option(
-        rt,
-        std::num::wrapping_sub_usize(count_all(rt), 1),
-        b"--verdict-on-3",
-    )
+    has_option(rt, count_all(rt).wrapping_sub(1), b"--verdict-on-3")
 }
 
 // How many arguments there are, the program's own name and the word among them, but not the one that says where the verdict goes.
 pub fn argument_count(rt: &HostRuntime) -> usize {
     let count = count_all(rt);
     if verdict_on_3(rt) {
-        return std::num::wrapping_sub_usize(count, 1);
+        return count.wrapping_sub(1);
     }
     count
 }
@@ -54,7 +50,7 @@ pub fn argument_count(rt: &HostRuntime) -> usize {
 pub fn has_option(rt: &HostRuntime, place: usize, option: &[u8]) -> bool {
     let mut text = io::buffer();
     let count = argument(rt, place, &mut text);
-    same(part(&text, 0, count), option)
+    part(&text, 0, count) == option
 }
 
 // Tells the file that the argument at this place names.
@@ -66,7 +62,7 @@ pub fn tell_argument(rt: &HostRuntime, place: usize) {
 
 // Whether the word has so many arguments; a complaint, which says what it takes, where it has not.
 pub fn has_arguments(rt: &HostRuntime, count: usize, word: &[u8], takes: &[u8]) -> bool {
-    if argument_count(rt) == std::num::wrapping_add_usize(count, 2) {
+    if argument_count(rt) == count.wrapping_add(2) {
         return true;
     }
     complain(b"heidezirkel ");

@@ -2,7 +2,7 @@
 // program's word and the file's path.
 #![tactic(auto)]
 
-ghost use Rattle.std.specs.Prelude.{◌≡◌, ◌≤◌, length, IfOk};
+ghost use Rattle.std.specs.Prelude.{◌≡◌, ◌≤◌, length, IfOk, IfSome};
 
 pub mod arguments;
 pub mod ending;
@@ -15,30 +15,25 @@ use std::io::{Error, ErrorKind, Read, Result, Write};
 use std::os::fd::AsRawFd;
 use std::str::from_utf8;
 use text::output::{Output, put};
-use text::words::{find, part, same};
+use text::words::{find, part};
 
-// Whether the file could be read, how many bytes of it the buffer holds now, and whether that is the whole file. Where it could
-// not be read, there are none.
+// How many bytes of a file the buffer holds now, and whether that is the whole file.
 #[derive(Clone, Copy)]
 pub struct Filed {
-    pub good: bool,
     pub count: usize,
     pub whole: bool,
 }
 
-// Reads the file from its start, as much as the buffer holds; `-` is standard input. `word` is the program's word that wants it, as in `heidezirkel show`.
-pub fn read_file(rt: &HostRuntime, word: &[u8], path: &[u8], buffer: &mut [u8]) -> Filed
-    ensures { result.count ≤ length buffer.new }
+// Reads the file from its start, as much as the buffer holds; `-` is standard input. `word` is the program's word that wants it, as in `heidezirkel show`. A file
+// that can't be read is complained of.
+pub fn read_file(rt: &HostRuntime, word: &[u8], path: &[u8], buffer: &mut [u8]) -> Option<Filed>
+    ensures { IfSome result (λ filed. filed.count ≤ length buffer.new) }
 {
     match read_path(rt, path, buffer) {
-        Ok(filed) => filed,
+        Ok(filed) => Some(filed),
         Err(error) => {
             complain_of(word, path, error);
-            Filed {
-                good: false,
-                count: 0,
-                whole: false,
-            }
+            None
         }
     }
 }
@@ -46,7 +41,7 @@ pub fn read_file(rt: &HostRuntime, word: &[u8], path: &[u8], buffer: &mut [u8]) 
 fn read_path(rt: &HostRuntime, path: &[u8], buffer: &mut [u8]) -> Result<Filed>
     ensures { IfOk result (λ filed. filed.count ≤ length buffer.new) }
 {
-    if same(path, b"-") {
+    if let b"-" = path {
         let mut input = rt.stdin();
         return fill(&mut input, buffer);
     }
@@ -80,7 +75,12 @@ fn open_handed(rt: &HostRuntime, path: &[u8]) -> Result<File> {
 }
 
 // Reads the file that an argument of the word names.
-pub fn read_argument(rt: &HostRuntime, word: &[u8], place: usize, buffer: &mut [u8]) -> Filed {
+pub fn read_argument(
+    rt: &HostRuntime,
+    word: &[u8],
+    place: usize,
+    buffer: &mut [u8],
+) -> Option<Filed> {
     let mut name = io::buffer();
     let count = argument(rt, place, &mut name);
     read_file(rt, word, part(&name, 0, count), buffer)
@@ -91,11 +91,11 @@ fn fill<R: Read>(reader: &mut R, buffer: &mut [u8]) -> Result<Filed>
     ensures { IfOk result (λ filed. filed.count ≤ length buffer.new) }
 {
     let mut have = 0;
+    // Steps by as many bytes as a read gives: no iterator goes so.
     while have < buffer.len() {
         let count = reader.read(&mut buffer[have..])?;
         if count == 0 {
             return Ok(Filed {
-                good: true,
                 count: have,
                 whole: true,
             });
@@ -112,7 +112,6 @@ fn at_end<R: Read>(reader: &mut R, have: usize) -> Result<Filed>
     let mut one = [0u8; 1];
     let count = reader.read(&mut one)?;
     Ok(Filed {
-        good: true,
         count: have,
         whole: count == 0,
     })
@@ -215,7 +214,7 @@ fn put_words(words: &mut [u8], error: Error) {
 fn words_before_number(words: &[u8]) -> usize {
     let number = find(words, b'(');
     if number < words.len() {
-        return std::num::wrapping_sub_usize(number, 1);
+        return number.wrapping_sub(1);
     }
     find(words, 0)
 }

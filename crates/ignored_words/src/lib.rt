@@ -22,13 +22,10 @@ use text::words::part;
 // The word `ignored`.
 pub fn run_ignored(rt: &HostRuntime) -> u8 {
     let mut log = log_room();
-    let ready = settings_and_log(rt, b"ignored", &mut log);
-    if ready.verdict != 0 {
-        return ready.verdict;
-    }
-    let settings = ready.settings;
-    let count = ready.count;
-    tell_ignored(settings, part(&log, 0, count))
+    let Some(ready) = settings_and_log(rt, b"ignored", &mut log) else {
+        return 2;
+    };
+    tell_ignored(ready.settings, part(&log, 0, ready.count))
 }
 
 // Lists the ignored messages of a log, and answers the verdict: 0 where the whole log is what the radio does.
@@ -42,7 +39,7 @@ fn tell_walked(own: Own, identity: &[u8], log: &[u8]) -> u8 {
     let walked = walk(own, identity, log);
     let track = walked.track;
     let entries = track.entries;
-    let number = std::num::wrapping_add_usize(entries, 1);
+    let number = entries.wrapping_add(1);
     let end = walked.end;
     match end {
         End::Finished => {
@@ -85,7 +82,7 @@ fn tell_listed_to(own: Own, identity: &[u8], log: &[u8], entries: usize, number:
 
 // How many messages were ignored for each reason. The first count is of the other entries.
 fn tell_counts(counts: &[usize; 7], entries: usize) {
-    let ignored = std::num::wrapping_sub_usize(entries, counts[0]);
+    let ignored = entries.wrapping_sub(counts[0]);
     if ignored == 0 {
         tell(b"no message was ignored in ");
         tell_count(entries, b" entry\n", b" entries\n");
@@ -97,10 +94,8 @@ fn tell_counts(counts: &[usize; 7], entries: usize) {
 }
 
 fn tell_each(counts: &[usize; 7]) {
-    let mut reason = 1;
-    while reason < 7 {
+    for reason in 1..7 {
         tell_counted(counts, reason);
-        reason += 1;
     }
 }
 

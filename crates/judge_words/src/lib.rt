@@ -25,15 +25,12 @@ use verdict::{Invitation, Judged};
 pub fn run_judge(rt: &HostRuntime) -> u8 {
     let strict = has_option(rt, 2, b"--settings-timers");
     let mut log = log_room();
-    let ready = settings_and_log_behind(rt, b"judge", options(strict), &mut log);
-    if ready.verdict != 0 {
-        return ready.verdict;
-    }
-    let settings = ready.settings;
-    let count = ready.count;
-    tell_argument(rt, std::num::wrapping_add_usize(options(strict), 3));
+    let Some(ready) = settings_and_log_behind(rt, b"judge", options(strict), &mut log) else {
+        return 2;
+    };
+    tell_argument(rt, options(strict).wrapping_add(3));
     tell(b": ");
-    tell_judged(strict, settings, part(&log, 0, count))
+    tell_judged(strict, ready.settings, part(&log, 0, ready.count))
 }
 
 // How many options there are.

@@ -9,10 +9,8 @@ pub fn run_show(rt: &HostRuntime) -> u8 {
         return 2;
     }
     let mut log = log_room();
-    let filed = read_argument(rt, b"show", 2, &mut log);
-    if !filed.good {
+    let Some(filed) = read_argument(rt, b"show", 2, &mut log) else {
         return 2;
-    }
-    let count = filed.count;
-    tell_log(part(&log, 0, count))
+    };
+    tell_log(part(&log, 0, filed.count))
 }

@@ -24,13 +24,10 @@ pub fn run_mend(rt: &HostRuntime) -> u8 {
         return 2;
     }
     let mut log = log_room();
-    let ready = settings_before_log(rt, b"mend", 0, &mut log);
-    if ready.verdict != 0 {
-        return ready.verdict;
-    }
-    let settings = ready.settings;
-    let count = ready.count;
-    mend_log(rt, settings, part(&log, 0, count))
+    let Some(ready) = settings_before_log(rt, b"mend", 0, &mut log) else {
+        return 2;
+    };
+    mend_log(rt, ready.settings, part(&log, 0, ready.count))
 }
 
 // A copy buffer as long as any log's is long enough, and settings that were read are in range: what can be refused is a log that is too long.
@@ -66,7 +63,7 @@ fn tell_kept(report: Report, size: usize) {
     tell(b": ");
     tell_count(report.kept, b" entry kept, ", b" entries kept, ");
     tell_count(report.length, b" byte\n", b" bytes\n");
-    if std::num::wrapping_add_usize(report.length, report.dropped) != size {
+    if report.length.wrapping_add(report.dropped) != size {
         tell(b"the version can't be read, so the copy is a log of version 1 without entries\n");
     }
     if report.dropped == 0 {

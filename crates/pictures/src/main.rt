@@ -7,7 +7,7 @@ use filing::arguments::{argument, has_arguments};
 use filing::ending::tell_verdict;
 use filing::{log_room, read_file};
 use saying::complain;
-use text::words::{part, same};
+use text::words::part;
 use timeline::tell_timeline;
 
 fn run_pcap(rt: &HostRuntime) -> u8 {
@@ -22,17 +22,15 @@ fn run_pcap(rt: &HostRuntime) -> u8 {
     let mut name = io::buffer();
     let length = argument(rt, 2, &mut name);
     let mut log = log_room();
-    let filed = read_file(rt, b"pcap", part(&name, 0, length), &mut log);
-    if !filed.good {
+    let Some(filed) = read_file(rt, b"pcap", part(&name, 0, length), &mut log) else {
         return 2;
-    }
-    let count = filed.count;
+    };
     let mut path = io::buffer();
     let end = argument(rt, 3, &mut path);
     write_capture(
         rt,
         part(&name, 0, length),
-        part(&log, 0, count),
+        part(&log, 0, filed.count),
         part(&path, 0, end),
     )
 }
@@ -49,30 +47,28 @@ fn run_timeline(rt: &HostRuntime) -> u8 {
     let mut name = io::buffer();
     let length = argument(rt, 2, &mut name);
     let mut log = log_room();
-    let filed = read_file(rt, b"timeline", part(&name, 0, length), &mut log);
-    if !filed.good {
+    let Some(filed) = read_file(rt, b"timeline", part(&name, 0, length), &mut log) else {
         return 2;
-    }
-    let count = filed.count;
+    };
     let mut path = io::buffer();
     let end = argument(rt, 3, &mut path);
     tell_timeline(
         rt,
-        part(&log, 0, count),
+        part(&log, 0, filed.count),
         part(&name, 0, length),
         part(&path, 0, end),
     )
 }
 
 fn run(rt: &HostRuntime, word: &[u8]) -> u8 {
-    if same(word, b"pcap") {
-        return run_pcap(rt);
+    match word {
+        b"pcap" => run_pcap(rt),
+        b"timeline" => run_timeline(rt),
+        _ => {
+            complain(b"pictures: its words are pcap and timeline\n");
+            2
+        }
     }
-    if same(word, b"timeline") {
-        return run_timeline(rt);
-    }
-    complain(b"pictures: its words are pcap and timeline\n");
-    2
 }
 
 fn main(rt: HostRuntime) {

@@ -28,10 +28,9 @@ fn script_room() -> [u8; 1048576]
 // Reads the script, makes its log and writes that to a new file. Answers the verdict. Nothing is written unless the whole script goes through.
 pub fn run(rt: &HostRuntime, settings: Settings, script_path: &[u8], log_path: &[u8]) -> u8 {
     let mut script = script_room();
-    let filed = read_file(rt, b"record", script_path, &mut script);
-    if !filed.good {
+    let Some(filed) = read_file(rt, b"record", script_path, &mut script) else {
         return 2;
-    }
+    };
     if !filed.whole {
         tell_too_long(script_path);
         return 1;

@@ -8,7 +8,7 @@ use ignored_words::run_ignored;
 use saying::complain;
 use settings_values::Settings;
 use settings_words::argument::settings_argument;
-use text::words::{part, same};
+use text::words::part;
 
 fn run_record(rt: &HostRuntime) -> u8 {
     if !has_arguments(
@@ -19,12 +19,10 @@ fn run_record(rt: &HostRuntime) -> u8 {
     ) {
         return 2;
     }
-    let fitted = settings_argument(rt, b"record");
-    if fitted.verdict != 0 {
-        return fitted.verdict;
+    match settings_argument(rt, b"record") {
+        Ok(settings) => record_log(rt, settings),
+        Err(verdict) => verdict,
     }
-    let settings = fitted.settings;
-    record_log(rt, settings)
 }
 
 // The script and the log that `record` makes of it.
@@ -37,14 +35,14 @@ fn record_log(rt: &HostRuntime, settings: Settings) -> u8 {
 }
 
 fn run(rt: &HostRuntime, word: &[u8]) -> u8 {
-    if same(word, b"record") {
-        return run_record(rt);
+    match word {
+        b"record" => run_record(rt),
+        b"ignored" => run_ignored(rt),
+        _ => {
+            complain(b"recordings: its words are record and ignored\n");
+            2
+        }
     }
-    if same(word, b"ignored") {
-        return run_ignored(rt);
-    }
-    complain(b"recordings: its words are record and ignored\n");
-    2
 }
 
 fn main(rt: HostRuntime) {

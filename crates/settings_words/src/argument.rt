@@ -15,10 +15,9 @@ pub fn run_settings(rt: &HostRuntime) -> u8 {
     let mut name = io::buffer();
     let length = argument(rt, 2, &mut name);
     let mut file = io::large_buffer();
-    let filed = read_file(rt, b"settings", part(&name, 0, length), &mut file);
-    if !filed.good {
+    let Some(filed) = read_file(rt, b"settings", part(&name, 0, length), &mut file) else {
         return 2;
-    }
+    };
     let count = filed.count;
     let read = read_settings(part(&file, 0, count));
     tell_settings(
@@ -30,11 +29,7 @@ pub fn run_settings(rt: &HostRuntime) -> u8 {
 }
 
 // The settings of a radio; or the verdict, 1 or 2, where there are none.
-#[derive(Clone, Copy)]
-pub struct Fitted {
-    pub verdict: u8,
-    pub settings: Settings,
-}
+pub type Fitted = Result<Settings, u8>;
 
 // The settings file that is the first argument of a word. One that is refused stops the word at its line.
 pub fn settings_argument(rt: &HostRuntime, word: &[u8]) -> Fitted {
@@ -46,13 +41,9 @@ fn settings_at(rt: &HostRuntime, word: &[u8], place: usize) -> Fitted {
     let mut name = io::buffer();
     let length = argument(rt, place, &mut name);
     let mut file = io::large_buffer();
-    let filed = read_file(rt, word, part(&name, 0, length), &mut file);
-    if !filed.good {
-        return Fitted {
-            verdict: 2,
-            settings: Settings::NONE,
-        };
-    }
+    let Some(filed) = read_file(rt, word, part(&name, 0, length), &mut file) else {
+        return Err(2);
+    };
     let count = filed.count;
     let read = read_settings(part(&file, 0, count));
     let settings = read.settings;
@@ -63,24 +54,20 @@ fn settings_at(rt: &HostRuntime, word: &[u8], place: usize) -> Fitted {
             filed.whole,
             read,
         );
-        return Fitted { verdict, settings };
+        return Err(verdict);
     }
-    Fitted {
-        verdict: 0,
-        settings,
-    }
+    Ok(settings)
 }
 
-// The same with a log, of which the first `count` bytes of a lent buffer are. The verdict is 2 where one of them is missing.
+// The settings of a radio with a log, of which the first `count` bytes of a lent buffer are.
 #[derive(Clone, Copy)]
 pub struct Ready {
-    pub verdict: u8,
     pub settings: Settings,
     pub count: usize,
 }
 
-// The settings file and the log that are the two arguments of a word.
-pub fn settings_and_log(rt: &HostRuntime, word: &[u8], log: &mut [u8]) -> Ready {
+// The settings file and the log that are the two arguments of a word. Where one of them is missing, the word does not go on: its verdict is 2.
+pub fn settings_and_log(rt: &HostRuntime, word: &[u8], log: &mut [u8]) -> Option<Ready> {
     settings_and_log_behind(rt, word, 0, log)
 }
 
@@ -90,39 +77,27 @@ pub fn settings_and_log_behind(
     word: &[u8],
     options: usize,
     log: &mut [u8],
-) -> Ready {
-    let count = std::num::wrapping_add_usize(options, 2);
+) -> Option<Ready> {
+    let count = options.wrapping_add(2);
     if !has_arguments(rt, count, word, b"two arguments, a settings file and a log") {
-        return stopped();
+        return None;
     }
     settings_before_log(rt, word, options, log)
 }
 
 // The settings file and the log that are the first two arguments of a word behind so many options. Where the settings are refused, the log was not looked at: that is no
 // verdict on it.
-pub fn settings_before_log(rt: &HostRuntime, word: &[u8], options: usize, log: &mut [u8]) -> Ready {
-    let place = std::num::wrapping_add_usize(options, 2);
-    let fitted = settings_at(rt, word, place);
-    let settings = fitted.settings;
-    if fitted.verdict != 0 {
-        return stopped();
-    }
-    let filed = read_argument(rt, word, std::num::wrapping_add_usize(place, 1), log);
-    if !filed.good {
-        return stopped();
-    }
-    Ready {
-        verdict: 0,
+pub fn settings_before_log(
+    rt: &HostRuntime,
+    word: &[u8],
+    options: usize,
+    log: &mut [u8],
+) -> Option<Ready> {
+    let place = options.wrapping_add(2);
+    let settings = settings_at(rt, word, place).ok()?;
+    let filed = read_argument(rt, word, place.wrapping_add(1), log)?;
+    Some(Ready {
         settings,
         count: filed.count,
-    }
-}
-
-// The word does not go on.
-fn stopped() -> Ready {
-    Ready {
-        verdict: 2,
-        settings: Settings::NONE,
-        count: 0,
-    }
+    })
 }
