@@ -29,18 +29,14 @@ fn count_all(rt: &HostRuntime) -> usize {
 // Whether the verdict is to go to descriptor 3. bin/heidezirkel asks for it by a last argument; nobody gives that by accident, so nothing that is open there for something
 // else is written to.
 pub(crate) fn verdict_on_3(rt: &HostRuntime) -> bool {
-    has_option(
-        rt,
-        std::num::wrapping_sub_usize(count_all(rt), 1),
-        b"--verdict-on-3",
-    )
+    has_option(rt, count_all(rt).wrapping_sub(1), b"--verdict-on-3")
 }
 
 // How many arguments there are, the program's own name and the word among them, but not the one that says where the verdict goes.
 pub fn argument_count(rt: &HostRuntime) -> usize {
     let count = count_all(rt);
     if verdict_on_3(rt) {
-        return std::num::wrapping_sub_usize(count, 1);
+        return count.wrapping_sub(1);
     }
     count
 }
@@ -59,7 +55,7 @@ pub fn tell_argument(rt: &HostRuntime, place: usize) {
 
 // Whether the word has so many arguments; a complaint, which says what it takes, where it has not.
 pub fn has_arguments(rt: &HostRuntime, count: usize, word: &[u8], takes: &[u8]) -> bool {
-    if argument_count(rt) == std::num::wrapping_add_usize(count, 2) {
+    if argument_count(rt) == count.wrapping_add(2) {
         return true;
     }
     complain(b"heidezirkel ");

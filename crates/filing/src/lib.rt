@@ -2,7 +2,7 @@
 // program's word and the file's path.
 #![tactic(auto)]
 
-ghost use Rattle.std.specs.Prelude.{◌≡◌, ◌≤◌, length, IfOk};
+ghost use Rattle.std.specs.Prelude.{◌≡◌, ◌≤◌, length, IfOk, IfSome};
 
 pub mod arguments;
 pub mod ending;
@@ -16,7 +16,7 @@ use std::io::{Error, ErrorKind, Read, Result, Write};
 use std::os::fd::AsRawFd;
 use std::str::from_utf8;
 use text::output::{Output, put};
-use text::words::{find, part, same};
+use text::words::{find, part};
 
 // What was read of a file into a lent buffer, and whether that is the whole file.
 #[derive(Clone, Copy)]
@@ -54,7 +54,7 @@ pub fn read_file<'a>(
 fn read_path(rt: &HostRuntime, path: &[u8], buffer: &mut [u8]) -> Result<Filled>
     ensures { IfOk result (λ filled. filled.count ≤ length buffer.new) }
 {
-    if same(path, b"-") {
+    if let b"-" = path {
         let mut input = rt.stdin();
         return fill(&mut input, buffer);
     }
@@ -103,6 +103,7 @@ fn fill<R: Read>(reader: &mut R, buffer: &mut [u8]) -> Result<Filled>
     ensures { IfOk result (λ filled. filled.count ≤ length buffer.new) }
 {
     let mut have = 0;
+    // Steps by as many bytes as a read gives: no iterator goes so.
     while have < buffer.len() {
         let count = reader.read(&mut buffer[have..])?;
         if count == 0 {
@@ -225,7 +226,7 @@ fn put_words(words: &mut [u8], error: Error) {
 fn words_before_number(words: &[u8]) -> usize {
     let number = find(words, b'(');
     if number < words.len() {
-        return std::num::wrapping_sub_usize(number, 1);
+        return number.wrapping_sub(1);
     }
     find(words, 0)
 }

@@ -10,14 +10,14 @@ use text::words::part;
 // An argument by its number, counted from 1 behind the word.
 fn complain_of(place: usize, why: &[u8]) {
     complain(b"heidezirkel message: argument ");
-    complain_number(std::num::wrapping_sub_usize(place, 1));
+    complain_number(place.wrapping_sub(1));
     complain(why);
 }
 
 // The first character that is no digit, counted from 1.
 fn complain_of_digit(place: usize, good: usize) {
     complain_of(place, b", character ");
-    complain_number(std::num::wrapping_add_usize(good, 1));
+    complain_number(good.wrapping_add(1));
     complain(b" is no hexadecimal digit\n");
 }
 
@@ -39,7 +39,7 @@ fn join_one(
         return Err(Failure::NotRun);
     }
     let behind = put(digits, output, part(&argument, 0, count));
-    if std::num::wrapping_sub_usize(behind.at, output.at) < count {
+    if behind.at.wrapping_sub(output.at) < count {
         complain_of(place, b" makes it more than 65536 digits\n");
         return Err(Failure::NotRun);
     }

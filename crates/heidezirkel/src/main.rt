@@ -26,8 +26,8 @@ fn run_message(rt: &HostRuntime) -> Result<(), Failure> {
     let mut digits = io::large_buffer();
     let joined = join(rt, &mut digits)?;
     let mut octets = io::large_buffer();
-    let spelt = read_hex(joined, true, &mut octets, 0);
-    let total = spelt.count;
+    // The arguments are digits, two an octet, and there is room for them all.
+    let total = read_hex(joined, true, &mut octets, 0).unwrap_or(0);
     tell_apart(part(&octets, 0, total))
 }
 

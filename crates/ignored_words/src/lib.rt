@@ -38,7 +38,7 @@ fn tell_walked(own: Own, identity: &[u8], log: &[u8]) -> Result<(), Failure> {
     let walked = walk(own, identity, log);
     let track = walked.track;
     let entries = track.entries;
-    let number = std::num::wrapping_add_usize(entries, 1);
+    let number = entries.wrapping_add(1);
     let end = walked.end;
     match end {
         End::Finished => {
@@ -87,7 +87,7 @@ fn tell_listed_to(
 
 // How many messages were ignored for each reason. The first count is of the other entries.
 fn tell_counts(counts: &[usize; 7], entries: usize) {
-    let ignored = std::num::wrapping_sub_usize(entries, counts[0]);
+    let ignored = entries.wrapping_sub(counts[0]);
     if ignored == 0 {
         tell(b"no message was ignored in ");
         tell_count(entries, b" entry\n", b" entries\n");
@@ -99,10 +99,8 @@ fn tell_counts(counts: &[usize; 7], entries: usize) {
 }
 
 fn tell_each(counts: &[usize; 7]) {
-    let mut reason = 1;
-    while reason < 7 {
+    for reason in 1..7 {
         tell_counted(counts, reason);
-        reason += 1;
     }
 }
 

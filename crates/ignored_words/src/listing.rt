@@ -38,11 +38,9 @@ pub fn list(own: Own, identity: &[u8], log: &[u8], entries: usize) -> [usize; 7]
         context: Context::cleared(),
         place,
     };
-    let mut left = entries;
-    while 0 < left {
+    for _ in 0..entries {
         passed = pass_entry(table, own, identity, log, passed);
         count(&mut counts, passed.reason);
-        left -= 1;
     }
     counts
 }
@@ -50,7 +48,7 @@ pub fn list(own: Own, identity: &[u8], log: &[u8], entries: usize) -> [usize; 7]
 fn count(counts: &mut [usize; 7], reason: u8) {
     if reason < 7 {
         let at = reason as usize;
-        counts[at] = std::num::wrapping_add_usize(counts[at], 1);
+        counts[at] = counts[at].wrapping_add(1);
     }
 }
 
@@ -65,8 +63,8 @@ fn pass_entry(table: Table, own: Own, identity: &[u8], log: &[u8], before: Passe
     let outcome = stepped.outcome;
     let after = stepped.context;
     let passed = Passed {
-        number: std::num::wrapping_add_usize(before.number, 1),
-        time: std::num::wrapping_add_u64(before.time, entry.delta as u64),
+        number: before.number.wrapping_add(1),
+        time: before.time.wrapping_add(entry.delta as u64),
         reason: outcome.reason,
         context: after,
         place,

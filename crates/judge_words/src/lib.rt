@@ -27,7 +27,7 @@ pub fn run_judge(rt: &HostRuntime) -> Result<(), Failure> {
     let strict = has_option(rt, 2, b"--settings-timers");
     let mut log = log_room();
     let ready = settings_and_log_behind(rt, b"judge", options(strict), &mut log)?;
-    tell_argument(rt, std::num::wrapping_add_usize(options(strict), 3));
+    tell_argument(rt, options(strict).wrapping_add(3));
     tell(b": ");
     tell_judged(strict, ready.settings, ready.log)
 }

@@ -60,7 +60,7 @@ fn tell_kept(report: Report, size: usize) {
     tell(b": ");
     tell_count(report.kept, b" entry kept, ", b" entries kept, ");
     tell_count(report.length, b" byte\n", b" bytes\n");
-    if std::num::wrapping_add_usize(report.length, report.dropped) != size {
+    if report.length.wrapping_add(report.dropped) != size {
         tell(b"the version can't be read, so the copy is a log of version 1 without entries\n");
     }
     if report.dropped == 0 {

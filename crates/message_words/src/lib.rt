@@ -218,7 +218,7 @@ fn tell_referred(octets: &[u8], kind: u8) {
 fn tell_immediate_setup(octets: &[u8], key: u8, identity: Run) {
     let start = identity.start;
     let count = identity.count;
-    let end = std::num::wrapping_add_usize(start, count);
+    let end = start.wrapping_add(count);
     tell_places(2, 1);
     tell(b"ciphering key sequence number ");
     tell_number(key);
@@ -227,11 +227,7 @@ fn tell_immediate_setup(octets: &[u8], key: u8, identity: Run) {
     tell_length(7, count, b"length of the mobile identity ");
     tell_run(octets, start, count, b"mobile identity ");
     tell_reference(octets, end);
-    tell_optional(
-        octets,
-        std::num::wrapping_add_usize(end, 4),
-        message_type::IMMEDIATE_SETUP,
-    );
+    tell_optional(octets, end.wrapping_add(4), message_type::IMMEDIATE_SETUP);
 }
 
 // STATUS, TERMINATION and TERMINATION REJECT: the cause's length octet, its first part and the diagnostics behind that. A cause that begins with octet 3 has no
@@ -244,7 +240,7 @@ fn tell_caused(octets: &[u8], cause: Run, kind: u8) {
     }
     tell_cause_part(start, octet_at(octets, start));
     tell_behind_cause(octets, start, count);
-    tell_optional(octets, std::num::wrapping_add_usize(start, count), kind);
+    tell_optional(octets, start.wrapping_add(count), kind);
 }
 
 // Bit 8 set ends the cause parts; where another part follows, the cause is unspecific (9.4.3).
@@ -262,7 +258,7 @@ fn tell_cause_part(place: usize, first: u8) {
 
 // What stands behind the first cause part. `start` is the place of the whole cause, `count` its count.
 fn tell_behind_cause(octets: &[u8], start: usize, count: usize) {
-    let behind = std::num::wrapping_add_usize(start, 1);
+    let behind = start.wrapping_add(1);
     if count < 2 {
         return;
     }
@@ -304,6 +300,7 @@ fn element_end(octets: &[u8], at: usize) -> usize
 // What stands behind the mandatory part, element by element.
 fn tell_optional(octets: &[u8], from: usize, kind: u8) {
     let mut at = from;
+    // Steps by what each element takes: no iterator goes so.
     while at < octets.len() {
         let end = element_end(octets, at);
         tell_places(at, end - at);
@@ -321,7 +318,7 @@ fn is_first(octets: &[u8], from: usize, at: usize, low: u8, high: u8) -> bool {
 fn tell_one(octets: &[u8], from: usize, at: usize, kind: u8) {
     let identifier = octet_at(octets, at);
     if (kind == message_type::GET_STATUS) & is_first(octets, from, at, 0x17, 0x17) {
-        tell_own(octets, std::num::wrapping_add_usize(at, 1));
+        tell_own(octets, at.wrapping_add(1));
         return;
     }
     if (kind == message_type::STATUS) & is_first(octets, from, at, 0xa0, 0xaf) {
@@ -363,7 +360,7 @@ fn is_whole(octets: &[u8], at: usize) -> bool {
     if 128 <= octet_at(octets, at) {
         return true;
     }
-    counted_at(octets, std::num::wrapping_add_usize(at, 1), 0, 255).is_ok()
+    counted_at(octets, at.wrapping_add(1), 0, 255).is_ok()
 }
 
 fn tell_skipped(identifier: u8, whole: bool) {

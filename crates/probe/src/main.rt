@@ -7,7 +7,7 @@ mod input;
 
 use filing::arguments::argument_count;
 use filing::ending::{has_reader_gone, tell_verdict};
-use input::{line_room, octets_room, stream};
+use input::{Stop, line_room, octets_room, stream};
 use saying::{complain, flush};
 use std::process::ExitCode;
 
@@ -23,13 +23,14 @@ fn run_probe(rt: &HostRuntime) -> u8 {
     let end = stream(rt, &mut lines, &mut octets, &mut buffer);
     let output = end.output;
     flush(&buffer, output);
-    if end.stop == 1 {
-        return 0;
+    match end.stop {
+        Some(Stop::Ended) => 0,
+        Some(Stop::Unheard) => 2,
+        Some(Stop::Unreadable) | None => {
+            complain(b"heidezirkel probe: standard input can't be read\n");
+            2
+        }
     }
-    if end.stop != 3 {
-        complain(b"heidezirkel probe: standard input can't be read\n");
-    }
-    2
 }
 
 // Without a reader there is no verdict: the status is that of a program that a broken pipe ends.

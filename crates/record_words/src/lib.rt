@@ -10,7 +10,7 @@ ghost use Rattle.std.specs.Prelude.{◌≡◌, length};
 use filing::ending::Failure;
 use filing::{read_file, write_file};
 use ignored_words::list;
-use making::{Made, make};
+use making::make;
 use message::Own;
 use refusal::tell_too_long;
 use replay::own_of;
@@ -56,7 +56,7 @@ fn record_script(
     log_path: &[u8],
 ) -> Result<(), Failure> {
     let mut log = io::large_buffer();
-    let Made::Whole(entries, used) = make(own, identity, script_path, script, &mut log) else {
+    let Some((entries, used)) = make(own, identity, script_path, script, &mut log) else {
         return Err(Failure::Refused);
     };
     write_log(rt, log_path, part(&log, 0, used), entries)?;

@@ -7,22 +7,21 @@ use saying::{say, say_decimal, say_hex, say_number};
 use settings::read_settings;
 use settings_values::Settings;
 use text::output::Output;
-use text::words::{Words, finished, part};
+use text::words::{finished, part};
 
 pub fn answer_settings(
     line: &[u8],
-    words: Words,
+    at: usize,
     octets: &mut [u8],
     buffer: &mut [u8],
     output: Output,
 ) -> Output {
-    let word = octets_word(line, words, octets, 0);
-    let rest = word.words;
-    let count = word.count;
-    if !finished(line, rest) {
-        return malformed(buffer, output);
+    match octets_word(line, at, octets, 0) {
+        Some((count, end)) if finished(line, end) => {
+            say_reading(buffer, output, part(octets, 0, count))
+        }
+        _ => malformed(buffer, output),
     }
-    say_reading(buffer, output, part(octets, 0, count))
 }
 
 fn say_reading(buffer: &mut [u8], output: Output, file: &[u8]) -> Output {

@@ -60,7 +60,7 @@ pub fn settings_and_log_behind<'a>(
     options: usize,
     room: &'a mut [u8],
 ) -> Result<Ready<'a>, Failure> {
-    let count = std::num::wrapping_add_usize(options, 2);
+    let count = options.wrapping_add(2);
     if !has_arguments(rt, count, word, b"two arguments, a settings file and a log") {
         return Err(Failure::NotRun);
     }
@@ -75,11 +75,11 @@ pub fn settings_before_log<'a>(
     options: usize,
     room: &'a mut [u8],
 ) -> Result<Ready<'a>, Failure> {
-    let place = std::num::wrapping_add_usize(options, 2);
+    let place = options.wrapping_add(2);
     let Ok(settings) = settings_at(rt, word, place) else {
         return Err(Failure::NotRun);
     };
-    let filed = read_argument(rt, word, std::num::wrapping_add_usize(place, 1), room)?;
+    let filed = read_argument(rt, word, place.wrapping_add(1), room)?;
     Ok(Ready {
         settings,
         log: filed.octets,

@@ -151,7 +151,7 @@ fn write_starts(descriptor: i32, view: View, before: Place, after: Place) {
 // All but the sixth where that has a line of its own.
 fn first_actions(actions: u8) -> u8 {
     if has_two_actions(actions) {
-        return std::num::wrapping_sub_u8(actions, action::TELL_MM_EXISTS);
+        return actions.wrapping_sub(action::TELL_MM_EXISTS);
     }
     actions
 }
