@@ -5,9 +5,9 @@
 mod ending;
 mod refusal;
 
-use filing::ending::Failure;
 use ending::tell_ending;
 use filing::arguments::{has_option, tell_argument};
+use filing::ending::Failure;
 use filing::log_room;
 use judge::{Examined, examine};
 use log_words::entry::tell_long;
@@ -54,7 +54,12 @@ fn examine_by(settings: Settings, log: &[u8]) -> Examined {
     examine(own_of(settings), part(&identity, 0, count), log)
 }
 
-fn tell_examined(strict: bool, settings: Settings, log: &[u8], examined: Examined) -> Result<(), Failure> {
+fn tell_examined(
+    strict: bool,
+    settings: Settings,
+    log: &[u8],
+    examined: Examined,
+) -> Result<(), Failure> {
     let identity = settings.identity;
     let count = settings.count;
     let own = own_of(settings);

@@ -2,8 +2,8 @@
 // judge's own words.
 #![tactic(auto)]
 
-use filing::ending::Failure;
 use filing::arguments::{argument, has_arguments};
+use filing::ending::Failure;
 use filing::{log_room, write_file};
 use judge_words::tell_judged;
 use mend::{Mended, Report};
@@ -45,7 +45,13 @@ fn mend_log(rt: &HostRuntime, settings: Settings, log: &[u8]) -> Result<(), Fail
 }
 
 // Writes the copy to the file that the third argument names, and answers the verdict: a copy that is written is fine, whatever was dropped.
-fn file_copy(rt: &HostRuntime, settings: Settings, report: Report, copy: &[u8], log: &[u8]) -> Result<(), Failure> {
+fn file_copy(
+    rt: &HostRuntime,
+    settings: Settings,
+    report: Report,
+    copy: &[u8],
+    log: &[u8],
+) -> Result<(), Failure> {
     let mut room = io::buffer();
     let name = argument(rt, 4, &mut room);
     write_file(rt, b"mend", name, copy)?;

@@ -6,16 +6,15 @@ mod answer;
 mod input;
 
 use filing::arguments::argument_count;
-use filing::ending::{has_reader_gone, tell_verdict};
+use filing::ending::{Failure, has_reader_gone, tell_verdict};
 use input::{Stop, line_room, octets_room, stream};
 use saying::{complain, flush};
 use std::process::ExitCode;
 
-// Answers the verdict.
-fn run_probe(rt: &HostRuntime) -> u8 {
+fn run_probe(rt: &HostRuntime) -> Result<(), Failure> {
     if argument_count(rt) != 2 {
         complain(b"heidezirkel probe: takes no arguments; commands come on standard input\n");
-        return 2;
+        return Err(Failure::NotRun);
     }
     let mut lines = line_room();
     let mut octets = octets_room();
@@ -24,21 +23,21 @@ fn run_probe(rt: &HostRuntime) -> u8 {
     let output = end.output;
     flush(&buffer, output);
     match end.stop {
-        Some(Stop::Ended) => 0,
-        Some(Stop::Unheard) => 2,
+        Some(Stop::Ended) => Ok(()),
+        Some(Stop::Unheard) => Err(Failure::NotRun),
         Some(Stop::Unreadable) | None => {
             complain(b"heidezirkel probe: standard input can't be read\n");
-            2
+            Err(Failure::NotRun)
         }
     }
 }
 
 // Without a reader there is no verdict: the status is that of a program that a broken pipe ends.
 fn main(rt: HostRuntime) -> ExitCode {
-    let verdict = run_probe(&rt);
+    let ended = run_probe(&rt);
     if has_reader_gone() {
         return ExitCode::from(141);
     }
-    tell_verdict(&rt, verdict);
+    tell_verdict(&rt, ended);
     ExitCode::SUCCESS
 }

@@ -27,7 +27,12 @@ fn script_room() -> [u8; 1048576]
 }
 
 // Reads the script, makes its log and writes that to a new file. Answers the verdict. Nothing is written unless the whole script goes through.
-pub fn run(rt: &HostRuntime, settings: Settings, script_path: &[u8], log_path: &[u8]) -> Result<(), Failure> {
+pub fn run(
+    rt: &HostRuntime,
+    settings: Settings,
+    script_path: &[u8],
+    log_path: &[u8],
+) -> Result<(), Failure> {
     let mut script = script_room();
     let filed = read_file(rt, b"record", script_path, &mut script)?;
     if !filed.whole {

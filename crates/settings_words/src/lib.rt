@@ -16,7 +16,11 @@ use settings_values::Settings;
 use text::words::part;
 
 // Tells what was read of the file at `path`.
-pub fn tell_settings(path: &[u8], file: Filed, read: Result<Settings, Refusal>) -> Result<(), Failure> {
+pub fn tell_settings(
+    path: &[u8],
+    file: Filed,
+    read: Result<Settings, Refusal>,
+) -> Result<(), Failure> {
     let whole = file.whole;
     let file = file.octets;
     tell_name(path);

@@ -14,9 +14,9 @@ mod segment;
 mod survey;
 mod window;
 
-use filing::ending::Failure;
 use band::{Extent, draw_bands, measure};
 use drawing::write_form;
+use filing::ending::Failure;
 use filing::{close_file, create_file};
 use head::{draw_head, top};
 use log_words::fault::{write_fault, write_version_fault};
@@ -32,7 +32,12 @@ use version::Table;
 const MOST: usize = version::LONGEST;
 
 // Draws a log, the file `name`, into the new file `path`, and answers the verdict.
-pub fn tell_timeline(rt: &HostRuntime, log: &[u8], name: &[u8], path: &[u8]) -> Result<(), Failure> {
+pub fn tell_timeline(
+    rt: &HostRuntime,
+    log: &[u8],
+    name: &[u8],
+    path: &[u8],
+) -> Result<(), Failure> {
     if MOST < log.len() {
         complain(b"log over 65,536 bytes (answer 10): nothing of it is drawn\n");
         return Err(Failure::Refused);
@@ -52,7 +57,14 @@ fn refuse_version(log: &[u8]) -> Result<(), Failure> {
     Err(Failure::Refused)
 }
 
-fn draw_log(rt: &HostRuntime, table: Table, log: &[u8], at: usize, name: &[u8], path: &[u8]) -> Result<(), Failure> {
+fn draw_log(
+    rt: &HostRuntime,
+    table: Table,
+    log: &[u8],
+    at: usize,
+    name: &[u8],
+    path: &[u8],
+) -> Result<(), Failure> {
     let found = survey_log(table, log, at);
     let file = create_file(rt, b"timeline", path)?;
     let descriptor = file.as_raw_fd();
