@@ -1,10 +1,14 @@
 // The arguments of a word.
+ghost use Rattle.std.specs.Prelude.{◌≤◌, length};
+
 use saying::complain;
 use saying::shown::tell_name;
 use std::env::{Env, FillError};
 
 // An argument, in a lent buffer. One that is missing or longer than the buffer is empty.
-pub fn argument<'a>(rt: &HostRuntime, place: usize, buffer: &'a mut [u8]) -> &'a [u8] {
+pub fn argument<'a>(rt: &HostRuntime, place: usize, buffer: &'a mut [u8]) -> &'a [u8]
+    ensures { length result.now ≤ length buffer.old }
+{
     match rt.arg(place, buffer) {
         Ok(count) => &buffer[..count],
         Err(_) => &buffer[..0],

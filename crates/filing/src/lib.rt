@@ -38,7 +38,9 @@ pub fn read_file<'a>(
     word: &[u8],
     path: &[u8],
     buffer: &'a mut [u8],
-) -> std::result::Result<Filed<'a>, Failure> {
+) -> std::result::Result<Filed<'a>, Failure>
+    ensures { IfOk result (λ filed. length filed.octets.now ≤ length buffer.old) }
+{
     match read_path(rt, path, buffer) {
         Ok(filled) => Ok(Filed {
             octets: &buffer[..filled.count],
