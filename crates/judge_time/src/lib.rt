@@ -2,10 +2,10 @@
 #![tactic(auto)]
 
 ghost use Rattle.std.specs.Prelude.{◌≡◌};
+ghost use Rattle.timer.specs.Timers.{running_among, expiry_of, number_of_any, length_of};
 ghost use Rattle.judge_time.specs.Clock.{astray, greatest_left, least_left, left_with, started_at, tick_of, untimely_at, while_running, window_left};
-ghost use Rattle.timer.specs.Timers.{number_of_any, timer_number};
 
-use timer::{Timer, Window};
+use timer::{Timer, Timers, Window};
 
 // The time, when the timer that runs was started, and the joining timers and the invitation timers that explain the entries so far: any of the ones with any of
 // the others. In milliseconds.
@@ -34,12 +34,14 @@ impl Clock {
 }
 
 // Whether an entry breaks the time rule of a timer of known length that runs for `age` milliseconds; `ends` where it is that timer's expiry.
-fn is_untimely(timer: Timer, age: u64, ends: bool) -> bool
-    ensures { result ≡ untimely_at (timer_number timer) age ends }
+fn is_untimely(timer: u8, age: u64, ends: bool) -> bool
+    ensures { result ≡ untimely_at timer age ends }
 {
-    let length = timer::timer_length(0, 0, timer) as u64;
+    let joining = timer::timer_number(Timer::ConnReq);
+    let invitation = timer::timer_number(Timer::Pres);
+    let length = timer_length(0, 0, timer) as u64;
     let wrong = (ends & (age != length)) | (length < age);
-    (timer != Timer::ConnReq) & ((timer != Timer::Pres) & wrong)
+    (timer != joining) & ((timer != invitation) & wrong)
 }
 
 // The least length that is left of a timer that has run for so long.
@@ -78,8 +80,8 @@ fn window_left(mine: bool, age: u64, ends: bool, window: Window) -> Window
 }
 
 // When the timer that runs behind the entry was started.
-fn started_after(before: Option<Timer>, after: Option<Timer>, started: u64, now: u64) -> u64
-    ensures { result ≡ started_at (number_of_any before) (number_of_any after) started now }
+fn started_after(before: u8, after: u8, started: u64, now: u64) -> u64
+    ensures { result ≡ started_at before after started now }
 {
     if after == before {
         return started;
@@ -116,33 +118,27 @@ fn is_astray(time: u64, started: u64) -> bool
 fn while_running(
     joining: Window,
     invitation: Window,
-    timer: Timer,
+    timer: u8,
     age: u64,
     ends: bool,
     time: u64,
     started: u64,
 ) -> Ticked
-    ensures { result ≡ while_running joining invitation (timer_number timer) age ends time started }
+    ensures { result ≡ while_running joining invitation timer age ends time started }
 {
     if is_untimely(timer, age, ends) {
         return Ticked::OutOfTime;
     }
-    let joins = timer == Timer::ConnReq;
+    let joins = timer == timer::timer_number(Timer::ConnReq);
     let joining_left = window_left(joins, age, ends, joining);
-    let invites = timer == Timer::Pres;
+    let invites = timer == timer::timer_number(Timer::Pres);
     let invitation_left = window_left(invites, age, ends, invitation);
     left_with(joining_left, invitation_left, time, started)
 }
 
-// What an entry `delta` milliseconds later, of this event, makes of a clock. `before` and `after` are the timers, if any, that run before and behind the entry.
-pub fn tick(
-    clock: Clock,
-    before: Option<Timer>,
-    after: Option<Timer>,
-    delta: u32,
-    event: u8,
-) -> Ticked
-    ensures { result ≡ tick_of clock (number_of_any before) (number_of_any after) delta event }
+// What an entry `delta` milliseconds later, of this event, makes of a clock. `before` and `after` are the timers that run before and behind the entry.
+pub fn tick(clock: Clock, before: u8, after: u8, delta: u32, event: u8) -> Ticked
+    ensures { result ≡ tick_of clock before after delta event }
 {
     if is_astray(clock.time, clock.started) {
         return Ticked::Astray;
@@ -152,15 +148,54 @@ pub fn tick(
     let joining = clock.joining;
     let invitation = clock.invitation;
     // Most entries find no timer running: what was left is handed on as it is.
-    let Some(timer) = before else {
+    if before == 0 {
         return Ticked::Onward(Clock {
             time: now,
             started,
             joining,
             invitation,
         });
-    };
+    }
     let age = now - clock.started;
-    let ends = timer::expired_timer(event as u32) == before;
-    while_running(joining, invitation, timer, age, ends, now, started)
+    let ends = expired_number(event as u32) == before;
+    while_running(joining, invitation, before, age, ends, now, started)
+}
+
+// The number of the timer that runs, 0 for none. A clock is told timers by their numbers: told of them by what they are, a walk takes some three per cent more
+// instructions.
+pub fn running_number(timers: Timers) -> u8
+    ensures { result ≡ running_among timers }
+{
+    number_of(timer::running_timer(timers))
+}
+
+// The number of the timer whose expiry an event is, 0 where it is none.
+fn expired_number(event: u32) -> u8
+    ensures { result ≡ expiry_of event }
+{
+    number_of(timer::expired_timer(event))
+}
+
+// The number of a timer, 0 for none.
+fn number_of(timer: Option<Timer>) -> u8
+    ensures { result ≡ number_of_any timer }
+{
+    match timer {
+        None => 0,
+        Some(timer) => timer::timer_number(timer),
+    }
+}
+
+// The length of the timer of a number, in milliseconds, where the joining timer is set to `joining` and the invitation timer to `invitation`; 0 for no timer.
+fn timer_length(joining: u32, invitation: u32, timer: u8) -> u32
+    ensures { result ≡ length_of joining invitation timer }
+{
+    match timer {
+        1 => Timers::MM_EST,
+        2 => Timers::TERM,
+        3 => joining,
+        4 => Timers::NO_CHANNEL,
+        5 => invitation,
+        _ => 0,
+    }
 }

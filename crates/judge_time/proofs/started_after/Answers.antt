@@ -1,13 +1,12 @@
 -- `started_after` meets its contract, either way of its test.
-use mathlib.Core.Path.{sym, ◌∙◌}
-use Rattle.timer.proofs.Numbers.{any_same_by_number}
+use borrow.Author.Tests.{ne_eqb, eq-eqb}
 use Rattle.judge_time.specs.Clock.{started_at}
 use Rattle.judge_time.proofs.started_after.Goals as goal
 
-pub returns-then-eq : goal.returns-then-eq
+pub returns-then-after-before : goal.returns-then-after-before
 unfolding started_at
-returns-then-eq c = rw (sym (any_same_by_number c.args.after c.args.before) ∙ sym c.eq.ensures ∙ c.if-eq.true)
+returns-then-after-before c = rw (eq-eqb _ _ c.if-after-before.true)
 
 pub returns : goal.returns
 unfolding started_at
-returns c = rw (sym (any_same_by_number c.args.after c.args.before) ∙ sym c.eq.ensures ∙ c.if-eq.false)
+returns c = rw (ne_eqb _ _ c.if-after-before.false)
