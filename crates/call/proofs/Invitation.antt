@@ -6,10 +6,11 @@ use mathlib.Core.Bool.{Bool, true, false, cond, not, ◌&&◌, ◌||◌}
 use native.Mathlib.Omega.{arith}
 use borrow.Author.Tests.{not-true}
 use Rattle.octets.proofs.Choice.{never}
+use Rattle.std.specs.Prelude.{Some, None}
 use Rattle.codes.specs.declared.state.State.{State}
 use Rattle.codes.specs.declared.state.State.TheVariants.{U0, U3, U4}
 use Rattle.octets.specs.declared.Reference.{Reference}
-use Rattle.timer.specs.declared.Timer.TheVariants.{NoTimer, ConnReq, Pres}
+use Rattle.timer.specs.declared.Timer.TheVariants.{ConnReq, Pres}
 use Rattle.timer.specs.Timers.{timer_number, alone, with_timer}
 use Rattle.version.specs.declared.Table.{Table}
 use Rattle.version.specs.declared.Table.TheVariants.{First, Second, Third, Group}
@@ -65,10 +66,10 @@ unfolding seen_of
 seen_join = refl
 
 abbrev ends : Taken
-ends = record { next = U0; actions = 0; sends = Nothing; stops = NoTimer; sets = NoTimer; stores = Stores.Nothing; memory = Keep; note = Note.Nothing }
+ends = record { next = U0; actions = 0; sends = Nothing; stops = None; sets = None; stores = Stores.Nothing; memory = Keep; note = Note.Nothing }
 
 abbrev joins : Taken
-joins = record { next = U4; actions = 4; sends = Nothing; stops = Pres; sets = ConnReq; stores = Stores.Nothing; memory = Keep; note = Note.Nothing }
+joins = record { next = U4; actions = 4; sends = Nothing; stops = Some Pres; sets = Some ConnReq; stores = Stores.Nothing; memory = Keep; note = Note.Nothing }
 
 row_of_19 : (x : Context) → happened_in (step_table Third) U3 x 19 ≡ cond x.timers.pres (Take ends) NoStep
 unfolding happened_in step_table protocol_of

@@ -5,6 +5,7 @@ use mathlib.Core.Path.{◌≡◌, refl, sym, ap, ◌∙◌}
 use mathlib.Core.Bool.{Bool, true, false, not, ◌&&◌}
 use borrow.Author.Tests.{not-true}
 use Rattle.octets.proofs.Choice.{never}
+use Rattle.std.specs.Prelude.{Some, None}
 use Rattle.codes.specs.declared.state.State.{State}
 use Rattle.octets.specs.declared.Run.{Run}
 use Rattle.message.specs.declared.Message.TheVariants.{TerminationReject}
@@ -24,7 +25,7 @@ use Rattle.fitness.specs.Tables.{fitness_of, term_runs, fit_of}
 use Rattle.fitness.proofs.Tables.{fit-timers, fit-silent}
 use Rattle.transitions.specs.declared.Send.TheVariants as Send
 use Rattle.transitions.specs.declared.Memory.TheVariants.{Forget}
-use Rattle.timer.specs.declared.Timer.TheVariants.{NoTimer, Term}
+use Rattle.timer.specs.declared.Timer.TheVariants.{Term}
 use Rattle.context.specs.declared.Remembered.{Remembered}
 use Rattle.transitions.specs.declared.Stores.TheVariants as Stores
 use Rattle.transitions.specs.declared.Note.TheVariants as Note
@@ -50,7 +51,7 @@ leads_back Group = true
 -- Its row.
 abbrev pub back-there : Remembered → Taken
 back-there r =
-    record { next = returning r State.U5; actions = 1; sends = Send.Nothing; stops = Term; sets = NoTimer; stores = Stores.Nothing; memory = Forget; note = Note.Nothing }
+    record { next = returning r State.U5; actions = 1; sends = Send.Nothing; stops = Some Term; sets = None; stores = Stores.Nothing; memory = Forget; note = Note.Nothing }
 
 row_of_reject : (table : Table) (x : Context) → leads_back table ≡ true → heard_in (step_table table) State.U5 x TERMINATION-REJECT ≡ Take (back-there x.remembered)
 unfolding heard_in step_table protocol_of

@@ -11,7 +11,7 @@ use Rattle.codes.specs.declared.attributes.Parameters.{Parameters}
 use Rattle.codes.specs.Attributes.{parameters_of}
 use Rattle.timer.specs.declared.Timers.{Timers}
 use Rattle.timer.specs.declared.Timer.TheVariants.{Term}
-use Rattle.timer.specs.Timers.{is_on, timer_number, running_among}
+use Rattle.timer.specs.Timers.{is_on, timer_number, number_of_any, running_among}
 use Rattle.context.specs.declared.Context.{Context}
 use Rattle.context.specs.States.{same, among}
 use Rattle.context.specs.Context.{cleared}
@@ -129,9 +129,9 @@ module _ (fitness : Fitness) (x y : Context) (d : Taken) (e : Seen)
   unfolding afterwards sent_in cleared
   entered_requests = at_cond (λ z. (sent_in z).request ≡ true → Requested x z) (same d.next U0) cleared (after y d e) (λ u r. never r) f
 
-  row-timed : rightly (timer_number d.sets) (runs x) (runs (afterwards y d e)) ≡ true
-      → rightly (set_in (afterwards y d e) (timer_number d.sets)) (runs x) (runs (flushed (afterwards y d e))) ≡ true
-  row-timed q = flushed-timed fitness x (afterwards y d e) (timer_number d.sets) q entered_requests
+  row-timed : rightly (number_of_any d.sets) (runs x) (runs (afterwards y d e)) ≡ true
+      → rightly (set_in (afterwards y d e) (number_of_any d.sets)) (runs x) (runs (flushed (afterwards y d e))) ≡ true
+  row-timed q = flushed-timed fitness x (afterwards y d e) (number_of_any d.sets) q entered_requests
 
 module _ (fitness : Fitness) (most : ℕ) (table : List Row) (sound : Sound fitness most table) (x : Context) (fit : fit_by fitness x ≡ true) where
   abbrev good : SoundFitness fitness
@@ -145,7 +145,7 @@ module _ (fitness : Fitness) (most : ℕ) (table : List Row) (sound : Sound fitn
       → Timed fitness x (cond (carried_out fitness x d e).sent.request (timer_number Term) (set_by d)) (carried_out fitness x d e)
   unfolding carried_out status_told parameters_set adopted sent_in value_after
   carried-timed (Take d) e keeps talks q =
-      at_cond (λ y. rightly (set_in (afterwards y d e) (timer_number d.sets)) (runs x) (runs (flushed (afterwards y d e))) ≡ true) (x.talk.awaiting && eqb e.number 18)
+      at_cond (λ y. rightly (set_in (afterwards y d e) (number_of_any d.sets)) (runs x) (runs (flushed (afterwards y d e))) ≡ true) (x.talk.awaiting && eqb e.number 18)
       (with_value e.value x) x
       (λ a. row-timed fitness x (with_value e.value x) d e (row_requests fitness good (with_value 0 x) (given (and_left x.talk.awaiting _ a)) d e keeps talks)
       (rw (runs_after (with_value e.value x) d e) q))

@@ -8,12 +8,14 @@ use lib.Dec.{eqb}
 use native.Mathlib.Omega.{arith}
 use borrow.Author.Tests.{eq-eqb, not-true}
 use Rattle.octets.proofs.Choice.{cond_same, at_cond, never}
+use Rattle.std.specs.Prelude.{None}
 use Rattle.codes.specs.declared.state.State.{State}
 use Rattle.codes.specs.declared.state.State.TheVariants.{U0, U0p, U1, U2, U3, U4, U5, U6, U2sl, U2wr, U2r, U2ws, U2sr, U2nc}
 use Rattle.codes.specs.MessageTypes.{GET-STATUS}
-use Rattle.message.specs.declared.Identity.{Identity}
+use Rattle.std.specs.Prelude.{Option}
+use Rattle.octets.specs.declared.Run.{Run}
 use Rattle.message.specs.declared.Message.TheVariants.{GetStatus}
-use Rattle.timer.specs.declared.Timer.TheVariants.{NoTimer, Term}
+use Rattle.timer.specs.declared.Timer.TheVariants.{Term}
 use Rattle.timer.specs.declared.Timers.{Timers}
 use Rattle.timer.specs.Timers.{timer_number, alone, with_timer}
 use Rattle.version.specs.declared.Table.TheVariants.{Group}
@@ -55,11 +57,11 @@ staying = U1 ∷ U2sl ∷ U2wr ∷ U2ws ∷ U2sr ∷ U2nc ∷ []
 
 abbrev stay_row : State → Note → Taken
 stay_row s note =
-    record { next = s; actions = 0; sends = Nothing; stops = NoTimer; sets = NoTimer; stores = Stores.Nothing; memory = Keep; note = note }
+    record { next = s; actions = 0; sends = Nothing; stops = None; sets = None; stores = Stores.Nothing; memory = Keep; note = note }
 
 abbrev talk_row : Note → Taken
 talk_row note =
-    record { next = U2ws; actions = 64; sends = Nothing; stops = NoTimer; sets = NoTimer; stores = Stores.Nothing; memory = Keep; note = note }
+    record { next = U2ws; actions = 64; sends = Nothing; stops = None; sets = None; stores = Stores.Nothing; memory = Keep; note = note }
 
 row_of_4 : (x : Context) (s : State) → happened_in (step_table Group) s x 4
     ≡ cond (among s staying) (cond x.parameters.orig (Take (stay_row s Note.TerminationPends)) NoStep) (cond (same s U2r) (cond x.parameters.orig (Take (talk_row Note.TerminationPends)) NoStep) NoStep)
@@ -259,7 +261,7 @@ module _ (x : Context) where
 
 -- ---- 6.5.1.1: GET STATUS
 
-module _ (x : Context) (fit : fit_of Group x ≡ true) (called : same x.state U0 ≡ false) (mode value : ℕ) (identity : Identity) where
+module _ (x : Context) (fit : fit_of Group x ≡ true) (called : same x.state U0 ≡ false) (mode value : ℕ) (identity : Option Run) where
   abbrev asks : Seen
   asks = heard GET-STATUS value no_reference 0
 

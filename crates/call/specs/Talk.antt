@@ -1,6 +1,6 @@
 -- What only a group call keeps, step by step: 24.068, 6.3.1.1, 6.4.1 and 6.5.1.1. In a broadcast call nothing is pending and no value is awaited, and all of this
 -- leaves the context as it is.
-use Rattle.std.specs.Prelude.{ℕ, Bool, true, false, cond, not, ◌&&◌, ◌||◌, eqb}
+use Rattle.std.specs.Prelude.{ℕ, Bool, true, false, cond, not, ◌&&◌, ◌||◌, eqb, Some}
 use Rattle.codes.specs.declared.state.State.{State}
 use Rattle.codes.specs.declared.state.State.TheVariants.{U5, U2ws}
 use Rattle.codes.specs.declared.attributes.Parameters.{Parameters}
@@ -79,7 +79,7 @@ abbrev pub requested : Context → Context
 requested x = record {
   state = U5;
   parameters = entering U5 x.parameters;
-  timers = with_timer Term true (with_timer MmEst false x.timers);
+  timers = with_timer (Some Term) true (with_timer (Some MmEst) false x.timers);
   value = x.value;
   reference = x.reference;
   remembered = remembering x.state;

@@ -59,12 +59,12 @@ pub struct Seen {
 // Why a message is ignored, in the order of the numbers 1 to 6.
 #[derive(Clone, Copy)]
 pub enum Reason {
-    NoCall,
-    TooShort,
-    OtherProtocol,
-    TransactionMismatch,
-    OtherIdentity,
-    CommFalse,
+    NoCall = 1,
+    TooShort = 2,
+    OtherProtocol = 3,
+    TransactionMismatch = 4,
+    OtherIdentity = 5,
+    CommFalse = 6,
 }
 
 // What is due, settled: what a step comes to before its reply is octets. The answer is document 01's number; the reason is the number of why a message is
@@ -109,17 +109,11 @@ pub enum Due {
 }
 
 // The number of a reason.
+#[tactic(auto, unfolding(crate::specs::Reasons::reason_number))]
 pub fn reason_number(reason: Reason) -> u8
     ensures { result ≡ reason_number reason }
 {
-    match reason {
-        Reason::NoCall => 1,
-        Reason::TooShort => 2,
-        Reason::OtherProtocol => 3,
-        Reason::TransactionMismatch => 4,
-        Reason::OtherIdentity => 5,
-        Reason::CommFalse => 6,
-    }
+    reason as u8
 }
 
 impl Seen {

@@ -26,9 +26,7 @@ const SILENT: Sending = Sending::OfRow(Send::Nothing);
 fn parameters_after(from: State, before: Parameters, next: State) -> Parameters
     ensures { result ≡ parameters_after from before next }
 {
-    let here = context::state_number(from);
-    let there = context::state_number(next);
-    if here == there {
+    if from == next {
         return before;
     }
     context::entering(next, before)
@@ -57,26 +55,24 @@ fn timers_after(taken: Taken, before: Timers) -> Timers
 }
 
 // The transaction value after a row: that of the event where the row stores it.
+#[tactic(auto, unfolding(call::specs::Step::value_after))]
 fn value_after(stores: Stores, carried: u8, kept: u8) -> u8
     ensures { result ≡ value_after stores carried kept }
 {
     match stores {
-        Stores::Nothing => kept,
         Stores::ValueAndReference => carried,
-        Stores::ItsReference => kept,
-        Stores::ItsReferenceAndOriginator => kept,
+        _ => kept,
     }
 }
 
 // The reference likewise.
+#[tactic(auto, unfolding(call::specs::Step::reference_after))]
 fn reference_after(stores: Stores, carried: Reference, kept: Reference) -> Reference
     ensures { result ≡ reference_after stores carried kept }
 {
     match stores {
         Stores::Nothing => kept,
-        Stores::ValueAndReference => carried,
-        Stores::ItsReference => carried,
-        Stores::ItsReferenceAndOriginator => carried,
+        _ => carried,
     }
 }
 
@@ -107,8 +103,7 @@ fn afterwards(context: Context, taken: Taken, seen: Seen) -> Context
     ensures { result ≡ afterwards context taken seen }
 {
     let next = taken.next;
-    let number = context::state_number(next);
-    if number == 0 {
+    if next == State::U0 {
         return Context::cleared();
     }
     let stores = taken.stores;
@@ -246,19 +241,9 @@ fn tell_status(context: Context) -> Settled
 fn with_parameters(parameters: Parameters, context: Context) -> Context
     ensures { result ≡ with_parameters parameters context }
 {
-    let state = context.state;
-    let timers = context.timers;
-    let reference = context.reference;
-    let remembered = context.remembered;
-    let talk = context.talk;
     Context {
-        state,
         parameters,
-        timers,
-        value: context.value,
-        reference,
-        remembered,
-        talk,
+        ..context
     }
 }
 

@@ -8,7 +8,7 @@ use Rattle.codes.specs.declared.protocol.Protocol.{Protocol}
 use Rattle.codes.specs.declared.protocol.Protocol.TheVariants.{Broadcast, Group}
 use Rattle.codes.specs.declared.state.State.{State}
 use Rattle.codes.specs.declared.state.State.TheVariants.{U0, U0p, U1, U2, U3, U4, U5, U6, U2sl, U2wr, U2r, U2ws, U2sr, U2nc}
-use Rattle.codes.specs.declared.state.CallState.TheVariants.{Is}
+use Rattle.std.specs.Prelude.{Some}
 use Rattle.codes.specs.declared.attributes.Parameters.{Parameters}
 use Rattle.codes.specs.CallStates.{states_of, call_state_of, call_state_code}
 use Rattle.codes.specs.Attributes.{parameters_of, attributes_of, weighs}
@@ -19,7 +19,7 @@ Each P [] = Unit {0}
 Each P (s ∷ more) = P s × Each P more
 
 -- Each state that a protocol has.
-pub state-back : (protocol : Protocol) → Each (λ s. call_state_of protocol (call_state_code s) ≡ Is s) (states_of protocol)
+pub state-back : (protocol : Protocol) → Each (λ s. call_state_of protocol (call_state_code s) ≡ Some s) (states_of protocol)
 unfolding call_state_of call_state_code
 state-back Broadcast = (refl, (refl, (refl, (refl, (refl, (refl, (refl, (refl, tt))))))))
 state-back Group = (refl, (refl, (refl, (refl, (refl, (refl, (refl, (refl, (refl, (refl, (refl, (refl, tt))))))))))))

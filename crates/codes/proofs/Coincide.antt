@@ -5,7 +5,7 @@ use mathlib.Core.Bool.{Bool}
 use Rattle.octets.proofs.Coincide.{coincide}
 use Rattle.codes.specs.declared.protocol.Protocol.{Protocol}
 use Rattle.codes.specs.declared.state.State.{State}
-use Rattle.codes.specs.declared.state.CallState.{CallState}
+use Rattle.std.specs.Prelude.{Option}
 use Rattle.codes.specs.declared.attributes.Parameters.{Parameters}
 use Rattle.codes.specs.Protocol.{discriminator}
 use Rattle.codes.specs.CallStates.{call_state_of, call_state_code}
@@ -14,7 +14,7 @@ use Rattle.codes.specs.Attributes.{parameters_of, attributes_of, parameters_numb
 pub discriminator_coincides : (protocol : Protocol) (a b : ℕ) → a ≡ discriminator protocol → b ≡ discriminator protocol → a ≡ b
 discriminator_coincides protocol a b = coincide (discriminator protocol) a b
 
-pub call_state_of_coincides : (protocol : Protocol) (code : ℕ) (a b : CallState) → a ≡ call_state_of protocol code → b ≡ call_state_of protocol code → a ≡ b
+pub call_state_of_coincides : (protocol : Protocol) (code : ℕ) (a b : Option State) → a ≡ call_state_of protocol code → b ≡ call_state_of protocol code → a ≡ b
 call_state_of_coincides protocol code a b = coincide (call_state_of protocol code) a b
 
 pub call_state_code_coincides : (state : State) (a b : ℕ) → a ≡ call_state_code state → b ≡ call_state_code state → a ≡ b

@@ -2,19 +2,17 @@
 ghost use Rattle.std.specs.Prelude.{◌≡◌};
 ghost use Rattle.codes.specs.Protocol.{discriminator};
 
-// Broadcast call control, GSM 04.69, and group call control, 24.068.
+// Broadcast call control, GSM 04.69, and group call control, 24.068, by their discriminators.
 #[derive(Clone, Copy)]
 pub enum Protocol {
-    Broadcast,
-    Group,
+    Broadcast = 1,
+    Group = 0,
 }
 
 // The low half of a message's first octet.
+#[tactic(auto, unfolding(crate::specs::Protocol::discriminator))]
 pub fn discriminator(protocol: Protocol) -> u8
     ensures { result ≡ discriminator protocol }
 {
-    match protocol {
-        Protocol::Broadcast => 1,
-        Protocol::Group => 0,
-    }
+    protocol as u8
 }

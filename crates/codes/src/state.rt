@@ -1,14 +1,13 @@
 // Call states, 9.4.2 of GSM 04.69 and of 24.068: the states of call control and their codes in a STATUS.
-ghost use Rattle.std.specs.Prelude.{◌≡◌};
+ghost use Rattle.std.specs.Prelude.{◌≡◌, None};
 ghost use Rattle.octets.specs.Rows.{rows};
-ghost use Rattle.codes.specs.declared.state.CallState.TheVariants.{Reserved};
 ghost use Rattle.codes.specs.CallStates.{broadcast_states, group_states, call_state_of, call_state_code};
 
 use crate::protocol::Protocol;
 
 // The states of the mobile station's side. U2 and U6 are a broadcast call's. A group call has sub-states in their place, in 24.068's order: separate link (U2sl), wait
 // for receive mode (U2wr), receive mode (U2r), wait for send and receive mode (U2ws), send and receive mode (U2sr), no channel (U2nc).
-#[derive(Clone, Copy)]
+#[derive(Clone, Copy, PartialEq)]
 pub enum State {
     U0,
     U0p,
@@ -26,53 +25,46 @@ pub enum State {
     U2nc,
 }
 
-// What a call state's code says.
-#[derive(Clone, Copy)]
-pub enum CallState {
-    Is(State),
-    Reserved,
-}
-
 // The state that a code names in a broadcast call.
-fn broadcast_state(code: u8) -> CallState
-    ensures { result ≡ rows code Reserved broadcast_states }
+fn broadcast_state(code: u8) -> Option<State>
+    ensures { result ≡ rows code None broadcast_states }
 {
     match code {
-        0 => CallState::Is(State::U0),
-        1 => CallState::Is(State::U1),
-        2 => CallState::Is(State::U2),
-        3 => CallState::Is(State::U3),
-        4 => CallState::Is(State::U4),
-        5 => CallState::Is(State::U5),
-        6 => CallState::Is(State::U0p),
-        7 => CallState::Is(State::U6),
-        8..=255 => CallState::Reserved,
+        0 => Some(State::U0),
+        1 => Some(State::U1),
+        2 => Some(State::U2),
+        3 => Some(State::U3),
+        4 => Some(State::U4),
+        5 => Some(State::U5),
+        6 => Some(State::U0p),
+        7 => Some(State::U6),
+        8..=255 => None,
     }
 }
 
 // The state that a code names in a group call.
-fn group_state(code: u8) -> CallState
-    ensures { result ≡ rows code Reserved group_states }
+fn group_state(code: u8) -> Option<State>
+    ensures { result ≡ rows code None group_states }
 {
     match code {
-        0 => CallState::Is(State::U0),
-        1 => CallState::Is(State::U1),
-        2 => CallState::Is(State::U2sl),
-        3 => CallState::Is(State::U3),
-        4 => CallState::Is(State::U4),
-        5 => CallState::Is(State::U5),
-        6 => CallState::Is(State::U0p),
-        7 => CallState::Is(State::U2wr),
-        8 => CallState::Is(State::U2r),
-        9 => CallState::Is(State::U2ws),
-        10 => CallState::Is(State::U2sr),
-        11 => CallState::Is(State::U2nc),
-        12..=255 => CallState::Reserved,
+        0 => Some(State::U0),
+        1 => Some(State::U1),
+        2 => Some(State::U2sl),
+        3 => Some(State::U3),
+        4 => Some(State::U4),
+        5 => Some(State::U5),
+        6 => Some(State::U0p),
+        7 => Some(State::U2wr),
+        8 => Some(State::U2r),
+        9 => Some(State::U2ws),
+        10 => Some(State::U2sr),
+        11 => Some(State::U2nc),
+        12..=255 => None,
     }
 }
 
 // The state that a code names.
-pub fn call_state_of(protocol: Protocol, code: u8) -> CallState
+pub fn call_state_of(protocol: Protocol, code: u8) -> Option<State>
     ensures { result ≡ call_state_of protocol code }
 {
     match protocol {

@@ -2,10 +2,13 @@
 use Prim.Native.Nat.{ℕ, ◌<◌}
 use mathlib.Core.Path.{◌≡◌, refl, sym, ap, ◌∙◌}
 use mathlib.Core.List.{[], ◌∷◌}
-use mathlib.Core.Bool.{true}
+use mathlib.Core.Bool.{true, false}
 use native.Mathlib.Omega.{arith}
 use lib.ListN.{get_or}
-use borrow.Author.Tests.{eqb-true}
+use borrow.Author.Tests.{eqb-true, ne_eqb}
+use denote.Enum.Bare.{sameb}
+use denote.Enum.Declared.{tag_of}
+use Rattle.codes.specs.contracts.state.State.{the_type}
 use Rattle.codes.specs.declared.state.State.{State}
 use Rattle.codes.specs.declared.state.State.TheVariants.{U0, U0p, U1, U2, U3, U4, U5, U6, U2sl, U2wr, U2r, U2ws, U2sr, U2nc}
 use Rattle.codes.specs.declared.attributes.Parameters.{Parameters}
@@ -26,6 +29,17 @@ at_number = elim [ U0 ↦ refl | U0p ↦ refl | U1 ↦ refl | U2 ↦ refl | U3 �
 -- States of the same number are the same.
 pub same-state : (a b : State) → same a b ≡ true → a ≡ b
 same-state a b e = sym (at_number a) ∙ ap state_at (eqb-true (number_of a) (number_of b) e) ∙ at_number b
+
+-- Whether two states are the same, as the code asks it.
+number_is_tag : (s : State) → tag_of the_type s ≡ number_of s
+number_is_tag = elim [ U0 ↦ refl | U0p ↦ refl | U1 ↦ refl | U2 ↦ refl | U3 ↦ refl | U4 ↦ refl | U5 ↦ refl | U6 ↦ refl | U2sl ↦ refl | U2wr ↦ refl | U2r ↦ refl | U2ws ↦ refl | U2sr ↦ refl | U2nc ↦ refl ]
+
+pub same_asked : (a b : State) → sameb the_type a b ≡ same a b
+same_asked a b = rw (number_is_tag a, number_is_tag b)
+
+-- Other states have other numbers.
+pub other_state : (a b : State) → (a ≡ b → ⊥) → same a b ≡ false
+other_state a b n = ne_eqb _ _ (λ e. n (sym (at_number a) ∙ ap state_at e ∙ at_number b))
 
 -- The states before U2sl, those of a broadcast call, set all four parameters.
 pub sets-all : (s : State) (p : Parameters) → number_of s < 8 → start_row s ≡ entering s p

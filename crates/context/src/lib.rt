@@ -24,16 +24,16 @@ pub struct Context {
     pub talk: Talk,
 }
 
-// Where a termination was asked from: nothing is remembered, or one of the states that it can be asked from.
+// Where a termination was asked from: nothing is remembered, or one of the states that it can be asked from, by its number.
 #[derive(Clone, Copy)]
 pub enum Remembered {
-    Nothing,
-    U1,
-    U2,
-    U2sl,
-    U2wr,
-    U2ws,
-    U2sr,
+    Nothing = 0,
+    U1 = 2,
+    U2 = 3,
+    U2sl = 8,
+    U2wr = 9,
+    U2ws = 11,
+    U2sr = 12,
 }
 
 // Which side chose the transaction value.
@@ -133,43 +133,31 @@ impl Context {
 }
 
 // What is remembered, as a number: that of the state, and 0 for nothing.
+#[tactic(auto, unfolding(crate::specs::Remembered::remembered_number))]
 pub fn remembered_number(remembered: Remembered) -> u8
     ensures { result ≡ remembered_number remembered }
 {
-    match remembered {
-        Remembered::Nothing => 0,
-        Remembered::U1 => 2,
-        Remembered::U2 => 3,
-        Remembered::U2sl => 8,
-        Remembered::U2wr => 9,
-        Remembered::U2ws => 11,
-        Remembered::U2sr => 12,
-    }
+    remembered as u8
 }
 
 // What is remembered where a termination is asked from a state.
+#[tactic(auto, unfolding(crate::specs::Remembered::remembering))]
 pub fn remembering(state: State) -> Remembered
     ensures { result ≡ remembering state }
 {
     match state {
-        State::U0 => Remembered::Nothing,
-        State::U0p => Remembered::Nothing,
         State::U1 => Remembered::U1,
         State::U2 => Remembered::U2,
-        State::U3 => Remembered::Nothing,
-        State::U4 => Remembered::Nothing,
-        State::U5 => Remembered::Nothing,
-        State::U6 => Remembered::Nothing,
         State::U2sl => Remembered::U2sl,
         State::U2wr => Remembered::U2wr,
-        State::U2r => Remembered::Nothing,
         State::U2ws => Remembered::U2ws,
         State::U2sr => Remembered::U2sr,
-        State::U2nc => Remembered::Nothing,
+        _ => Remembered::Nothing,
     }
 }
 
 // The state that is returned to; where nothing is remembered, the one that is.
+#[tactic(auto, unfolding(crate::specs::Remembered::returning))]
 pub fn returning(remembered: Remembered, here: State) -> State
     ensures { result ≡ returning remembered here }
 {
@@ -188,22 +176,7 @@ pub fn returning(remembered: Remembered, here: State) -> State
 pub fn state_number(state: State) -> usize
     ensures { result ≡ number_of state }
 {
-    match state {
-        State::U0 => 0,
-        State::U0p => 1,
-        State::U1 => 2,
-        State::U2 => 3,
-        State::U3 => 4,
-        State::U4 => 5,
-        State::U5 => 6,
-        State::U6 => 7,
-        State::U2sl => 8,
-        State::U2wr => 9,
-        State::U2r => 10,
-        State::U2ws => 11,
-        State::U2sr => 12,
-        State::U2nc => 13,
-    }
+    state as usize
 }
 
 // The parameters that a state starts with, taken from the table.
@@ -263,33 +236,15 @@ pub fn entering(state: State, before: Parameters) -> Parameters
 pub fn chooser_number(chooser: Chooser) -> u8
     ensures { result ≡ chooser_number chooser }
 {
-    match chooser {
-        Chooser::Neither => 0,
-        Chooser::Us => 1,
-        Chooser::Cell => 2,
-    }
+    chooser as u8
 }
 
 // The flag that is expected in a broadcast call's state.
+#[tactic(auto, unfolding(crate::specs::Talk::flag_in))]
 fn flag_in(state: State) -> bool
     ensures { result ≡ flag_in state }
 {
-    match state {
-        State::U0 => false,
-        State::U0p => true,
-        State::U1 => true,
-        State::U2 => true,
-        State::U3 => false,
-        State::U4 => false,
-        State::U5 => true,
-        State::U6 => false,
-        State::U2sl => false,
-        State::U2wr => false,
-        State::U2r => false,
-        State::U2ws => false,
-        State::U2sr => false,
-        State::U2nc => false,
-    }
+    matches!(state, State::U0p | State::U1 | State::U2 | State::U5)
 }
 
 // The transaction flag of what is received in the context; what is sent has the opposite. Where it is kept which side chose the value, that decides.

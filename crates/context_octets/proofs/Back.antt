@@ -22,17 +22,14 @@ use Rattle.context.specs.States.{number_of}
 use Rattle.context.specs.Remembered.{remembered_number}
 use Rattle.context.specs.Talk.{chooser_number}
 use Rattle.context.proofs.Whole.{and_left, and_right}
-use Rattle.context_octets.specs.declared.Numbered.{Numbered}
-use Rattle.context_octets.specs.declared.Numbered.TheVariants.{Is as IsState, NoState}
-use Rattle.context_octets.specs.declared.Reading.{Reading}
-use Rattle.context_octets.specs.declared.Reading.TheVariants.{Is, NoContext}
-use Rattle.context_octets.specs.Octets.{bit, chooser_at, context_of, four_number, is_kept, is_remembered, is_talk, remembered_at, octets_of, on_state, parameters_at, state_at, talk_at, talk_number, timers_at, timers_number, with_state}
+use Rattle.std.specs.Prelude.{Option, Some, None, option_map}
+use Rattle.context_octets.specs.Octets.{bit, chooser_at, context_of, four_number, is_kept, is_remembered, is_talk, remembered_at, octets_of, parameters_at, state_at, talk_at, talk_number, timers_at, timers_number, with_state}
 use Rattle.octets.proofs.Listed.{all_listed, listed}
 use Rattle.context_octets.proofs.Bits.{bit-most, chooser_most, parameters-four}
 
 -- ---- what is written is read back
 
-state-back : (s : State) → state_at (number_of s) ≡ IsState s
+state-back : (s : State) → state_at (number_of s) ≡ Some s
 unfolding state_at
 state-back = elim [ U0 ↦ refl | U0p ↦ refl | U1 ↦ refl | U2 ↦ refl | U3 ↦ refl | U4 ↦ refl | U5 ↦ refl | U6 ↦ refl | U2sl ↦ refl | U2wr ↦ refl | U2r ↦ refl | U2ws ↦ refl | U2sr ↦ refl | U2nc ↦ refl ]
 
@@ -130,7 +127,7 @@ talks k =
       back = rw (low, w4, w8, w16, chosen_by k.chooser, bit_is k.termination, bit_is k.status, bit_is k.awaiting);
     }
 
-pub read-written : (x : Context) → context_of (octets_of x) ≡ Is x
+pub read-written : (x : Context) → context_of (octets_of x) ≡ Some x
 unfolding context_of is_kept octets_of with_state parameters_at timers_at timers_number
 read-written x =
     let p : Parameters = x.parameters in
@@ -170,9 +167,9 @@ unfolding timers_number timers_at
 timers-back n h = rw (bit_of (n / 16 % 2) (omega arith), four-back n) (omega arith)
 
 -- A state's number is the one that it was read from.
-abbrev From : ℕ → Numbered → Type 0
-From n (IsState s) = number_of s ≡ n
-From n NoState = Unit
+abbrev From : ℕ → Option State → Type 0
+From n (Some s) = number_of s ≡ n
+From n None = Unit
 
 state_from : (n : ℕ) → From n (state_at n)
 unfolding state_at
@@ -264,15 +261,15 @@ kept s e =
     }
 
 -- The octets that a context was read from are written of it.
-abbrev pub Written : List ℕ → Reading → Type 0
-Written s (Is x) = octets_of x ≡ s
-Written s NoContext = Unit
+abbrev pub Written : List ℕ → Option Context → Type 0
+Written s (Some x) = octets_of x ≡ s
+Written s None = Unit
 
-state-written : (s : List ℕ) → length s ≡ 16 → Kept s → (t : Numbered) → From (get_or s 0 0) t → Written s (on_state s t)
+state-written : (s : List ℕ) → length s ≡ 16 → Kept s → (t : Option State) → From (get_or s 0 0) t → Written s (option_map (with_state s) t)
 unfolding octets_of with_state
-state-written s l k (IsState state) f =
+state-written s l k (Some state) f =
     rw (f, parameters-back (get_or s 1 0) k.parameters, timers-back (get_or s 2 0) k.timers, minded_from (get_or s 8 0) k.remembered, talks_from (get_or s 9 0) k.talk, ← k.zeros) (sym (all_listed 16 s l))
-state-written s l k NoState f = tt
+state-written s l k None f = tt
 
 pub written_read : (s : List ℕ) → length s ≡ 16 → Written s (context_of s)
 unfolding context_of
@@ -280,5 +277,5 @@ written_read s l =
     at_cond (Written s) (is_kept s) _ _ (λ e. state-written s l (kept s e) (state_at (get_or s 0 0)) (state_from (get_or s 0 0))) (λ e. tt)
 
 -- The same of a reading that is known.
-pub written_back : (s : List ℕ) (x : Context) → length s ≡ 16 → context_of s ≡ Is x → octets_of x ≡ s
+pub written_back : (s : List ℕ) (x : Context) → length s ≡ 16 → context_of s ≡ Some x → octets_of x ≡ s
 written_back s x l e = subst (Written s) e (written_read s l)

@@ -1,6 +1,6 @@
 -- The sixteen octets of a context: 0 state, 1 parameters, 2 timers that run, 3 transaction value, 4 to 7 call reference, 8 what is remembered (the state's number, 0 for
 -- nothing), 9 what a group call keeps, 10 to 15 zero.
-use Rattle.std.specs.Prelude.{ℕ, ◌+◌, ◌*◌, ◌/◌, ◌%◌, List, [], ◌∷◌, Bool, cond, ◌&&◌, ◌||◌, eqb, leb, get_or}
+use Rattle.std.specs.Prelude.{ℕ, ◌+◌, ◌*◌, ◌/◌, ◌%◌, List, [], ◌∷◌, Bool, cond, ◌&&◌, ◌||◌, eqb, leb, get_or, Option, Some, None, option_map}
 use Rattle.octets.specs.Rows.{rows}
 use Rattle.codes.specs.declared.state.State.{State}
 use Rattle.codes.specs.declared.state.State.TheVariants.{U0, U0p, U1, U2, U3, U4, U5, U6, U2sl, U2wr, U2r, U2ws, U2sr, U2nc}
@@ -16,32 +16,28 @@ use Rattle.context.specs.declared.Remembered.{Remembered}
 use Rattle.context.specs.States.{number_of}
 use Rattle.context.specs.Remembered.{remembered_number}
 use Rattle.context.specs.Talk.{chooser_number}
-use Rattle.context_octets.specs.declared.Numbered.{Numbered}
-use Rattle.context_octets.specs.declared.Numbered.TheVariants.{Is as IsState, NoState}
-use Rattle.context_octets.specs.declared.Reading.{Reading}
-use Rattle.context_octets.specs.declared.Reading.TheVariants.{Is, NoContext}
 
 -- Document 01, "The log": state, 0 to 7 for U0, U0.p, U1, U2, U3, U4, U5, U6; "state numbers from 8 on for the sub-states of U2 in 002's order".
-abbrev pub numbered : List (ℕ × Numbered)
+abbrev pub numbered : List (ℕ × Option State)
 numbered =
-    (0, IsState U0) ∷
-    (1, IsState U0p) ∷
-    (2, IsState U1) ∷
-    (3, IsState U2) ∷
-    (4, IsState U3) ∷
-    (5, IsState U4) ∷
-    (6, IsState U5) ∷
-    (7, IsState U6) ∷
-    (8, IsState U2sl) ∷
-    (9, IsState U2wr) ∷
-    (10, IsState U2r) ∷
-    (11, IsState U2ws) ∷
-    (12, IsState U2sr) ∷
-    (13, IsState U2nc) ∷
+    (0, Some U0) ∷
+    (1, Some U0p) ∷
+    (2, Some U1) ∷
+    (3, Some U2) ∷
+    (4, Some U3) ∷
+    (5, Some U4) ∷
+    (6, Some U5) ∷
+    (7, Some U6) ∷
+    (8, Some U2sl) ∷
+    (9, Some U2wr) ∷
+    (10, Some U2r) ∷
+    (11, Some U2ws) ∷
+    (12, Some U2sr) ∷
+    (13, Some U2nc) ∷
     []
 
-unfoldable pub state_at : ℕ → Numbered
-state_at number = rows number NoState numbered
+unfoldable pub state_at : ℕ → Option State
+state_at number = rows number None numbered
 
 -- Four bits in a number: the first weighs 8, the last 1.
 abbrev pub bit : Bool → ℕ
@@ -120,13 +116,9 @@ with_state s state = record {
   talk = talk_at (get_or s 9 0);
 }
 
-abbrev pub on_state : List ℕ → Numbered → Reading
-on_state s (IsState state) = Is (with_state s state)
-on_state s NoState = NoContext
-
 -- The context that sixteen octets are. Any other octets are no context.
-unfoldable pub context_of : List ℕ → Reading
-context_of s = cond (is_kept s) (on_state s (state_at (get_or s 0 0))) NoContext
+unfoldable pub context_of : List ℕ → Option Context
+context_of s = cond (is_kept s) (option_map (with_state s) (state_at (get_or s 0 0))) None
 
 -- The sixteen octets of a context.
 unfoldable pub octets_of : Context → List ℕ

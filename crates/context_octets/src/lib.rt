@@ -10,40 +10,26 @@ use context::{Chooser, Context, Remembered, Talk};
 use octets::Reference;
 use timer::Timers;
 
-// What sixteen octets are.
-#[derive(Clone, Copy)]
-pub enum Reading {
-    Is(Context),
-    NoContext,
-}
-
-// The state of a number.
-#[derive(Clone, Copy)]
-pub enum Numbered {
-    Is(State),
-    NoState,
-}
-
 // The state of a number from 0 to 13.
-fn state_at(number: u8) -> Numbered
+fn state_at(number: u8) -> Option<State>
     ensures { result ≡ state_at number }
 {
     match number {
-        0 => Numbered::Is(State::U0),
-        1 => Numbered::Is(State::U0p),
-        2 => Numbered::Is(State::U1),
-        3 => Numbered::Is(State::U2),
-        4 => Numbered::Is(State::U3),
-        5 => Numbered::Is(State::U4),
-        6 => Numbered::Is(State::U5),
-        7 => Numbered::Is(State::U6),
-        8 => Numbered::Is(State::U2sl),
-        9 => Numbered::Is(State::U2wr),
-        10 => Numbered::Is(State::U2r),
-        11 => Numbered::Is(State::U2ws),
-        12 => Numbered::Is(State::U2sr),
-        13 => Numbered::Is(State::U2nc),
-        _ => Numbered::NoState,
+        0 => Some(State::U0),
+        1 => Some(State::U0p),
+        2 => Some(State::U1),
+        3 => Some(State::U2),
+        4 => Some(State::U3),
+        5 => Some(State::U4),
+        6 => Some(State::U5),
+        7 => Some(State::U6),
+        8 => Some(State::U2sl),
+        9 => Some(State::U2wr),
+        10 => Some(State::U2r),
+        11 => Some(State::U2ws),
+        12 => Some(State::U2sr),
+        13 => Some(State::U2nc),
+        _ => None,
     }
 }
 
@@ -191,16 +177,14 @@ fn with_state(octets: &[u8; 16], state: State) -> Context
 }
 
 // The context that sixteen octets are, if they are one.
-pub fn read(octets: &[u8; 16]) -> Reading
+pub fn read(octets: &[u8; 16]) -> Option<Context>
     ensures { result ≡ context_of octets.now }
 {
     if !is_kept(octets) {
-        return Reading::NoContext;
+        return None;
     }
-    match state_at(octets[0]) {
-        Numbered::Is(state) => Reading::Is(with_state(octets, state)),
-        Numbered::NoState => Reading::NoContext,
-    }
+    let state = state_at(octets[0])?;
+    Some(with_state(octets, state))
 }
 
 // Writes a context's sixteen octets.

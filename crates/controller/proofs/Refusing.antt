@@ -25,8 +25,7 @@ use Rattle.log_entry.proofs.Fields.{claim-fits, ranged-claim}
 use Rattle.recorder.specs.Recording.{record_answer}
 use Rattle.verdict.specs.declared.Judged.TheVariants.{OutOfRange, TooLong}
 use Rattle.verdict.specs.Judge.{judge_of}
-use Rattle.context_octets.specs.declared.Reading.{Reading}
-use Rattle.context_octets.specs.declared.Reading.TheVariants.{Is, NoContext}
+use Rattle.std.specs.Prelude.{Option, Some, None}
 use Rattle.context_octets.specs.Octets.{context_of}
 use Rattle.settings_octets.specs.Octets.{identity_of, own_of, run_of}
 use Rattle.step_numbers.specs.declared.Occurrence.{Occurrence}
@@ -37,6 +36,7 @@ use Rattle.record_numbers.specs.Recording.{EntryRecorded}
 use Rattle.judge_numbers.specs.Judging.{at_entry, judgement_of}
 use Rattle.settings_numbers.specs.declared.SettingsRead.{SettingsRead}
 use Rattle.settings_numbers.specs.Configuring.{kept_octets, settings_shown}
+use Rattle.settings_numbers.proofs.Taken.{file_refused}
 
 -- ---- in the terms of the step and of the judge
 
@@ -91,15 +91,15 @@ untaken_unrecorded table e used before after r over p =
 -- Settings with which every step is refused, with 4 where the tests before it pass, and every judgement, with 4 where the log is not too long.
 pub record AllRefused (settings : List ℕ) : Type 0 where
   pub steps : (table : Table) (context : List ℕ) (room : ℕ) (e : Occurrence) (m : List ℕ) → length context ≡ 16 → Untaken context (call_of table context settings room e m)
-  pub four : (table : Table) (context : List ℕ) (x : Context) (room : ℕ) (e : Occurrence) (m : List ℕ) → context_of context ≡ Is x → fit_of table x ≡ true → 255 ≤ room
+  pub four : (table : Table) (context : List ℕ) (x : Context) (room : ℕ) (e : Occurrence) (m : List ℕ) → context_of context ≡ Some x → fit_of table x ≡ true → 255 ≤ room
       → eqb e.number 18 && ltb 251 (length m) ≡ false → (call_of table context settings room e m).step.answer ≡ 4
   pub judgements : (log : List ℕ) → judgement_of (judge_of (own_of settings) (identity_of settings) log) ≡ cond (ltb longest (length log)) (at_entry 10 0) (at_entry 4 0)
 
 module _ (settings : List ℕ) (out : settings_out (own_of settings).key (length (identity_of settings)) ≡ true) where
-  call_over : (table : Table) (context : List ℕ) (room : ℕ) (e : Occurrence) (m : List ℕ) (r : Reading) → 3 < (call_on table context settings room e m r).step.answer
+  call_over : (table : Table) (context : List ℕ) (room : ℕ) (e : Occurrence) (m : List ℕ) (r : Option Context) → 3 < (call_on table context settings room e m r).step.answer
   unfolding call_on call_from called
-  call_over table context room e m (Is x) = out_untaken table (own_of settings) (identity_of settings) room x (happened_of e) m out
-  call_over table context room e m NoContext = omega arith
+  call_over table context room e m (Some x) = out_untaken table (own_of settings) (identity_of settings) room x (happened_of e) m out
+  call_over table context room e m None = omega arith
 
   call_untaken : (table : Table) (context : List ℕ) (room : ℕ) (e : Occurrence) (m : List ℕ) → length context ≡ 16 → Untaken context (call_of table context settings room e m)
   unfolding call_of
@@ -108,7 +108,7 @@ module _ (settings : List ℕ) (out : settings_out (own_of settings).key (length
       let k = call_keeps table context settings room e m l in
       record { answer = o; kept = k.context (λ z. omega (arith, o, z)); still = k.still (λ z. omega (arith, o, z)); silent = k.silent (λ z. omega (arith, o, z)) (λ z. omega (arith, o, z)) }
 
-  call_four : (table : Table) (context : List ℕ) (x : Context) (room : ℕ) (e : Occurrence) (m : List ℕ) → context_of context ≡ Is x → fit_of table x ≡ true → 255 ≤ room
+  call_four : (table : Table) (context : List ℕ) (x : Context) (room : ℕ) (e : Occurrence) (m : List ℕ) → context_of context ≡ Some x → fit_of table x ≡ true → 255 ≤ room
       → eqb e.number 18 && ltb 251 (length m) ≡ false → (call_of table context settings room e m).step.answer ≡ 4
   unfolding call_of call_on call_from called
   call_four table context x room e m i fit big short = rw (i, out_four table (own_of settings) (identity_of settings) room x (happened_of e) m out fit big short)
@@ -137,7 +137,4 @@ zeros-refused = out_refused zeros refl
 -- "and no default stands in": a file that is refused leaves the zeros as they are.
 pub no_default : (file settings : List ℕ) (r : SettingsRead) → r ≡ settings_shown (settings_of file) → settings ≡ kept_octets zeros (settings_of file) → (r.answer ≡ 0 → ⊥)
     → AllRefused settings
-unfolding settings_shown kept_octets
-no_default file settings r told kept refused =
-    let n : (settings_of file).answer ≡ 0 → ⊥ = λ z. refused (ap (λ (s : SettingsRead). s.answer) told ∙ z) in
-    rw (kept, ne_eqb (settings_of file).answer 0 n) zeros-refused
+no_default file settings r told kept refused = rw ((file_refused file zeros settings r told kept refused).kept) zeros-refused

@@ -4,7 +4,6 @@ ghost use Rattle.septets.specs.Number.{number_at};
 ghost use Rattle.controller.specs.Numbering.{number_shown};
 
 use codes::wide::answer;
-use septets::Number;
 
 #[repr(C)]
 #[derive(Clone, Copy)]
@@ -20,12 +19,12 @@ pub extern "C" fn heidezirkel_read_number(octets: &[u8], at: usize) -> NumberRea
     ensures { result ≡ number_shown (number_at octets.now at) }
 {
     match septets::read_number(octets, at) {
-        Number::Value(value, next) => NumberRead {
+        Some((value, next)) => NumberRead {
             answer: answer::TAKEN,
             value,
             next,
         },
-        Number::Unreadable => NumberRead {
+        None => NumberRead {
             answer: answer::UNREADABLE_LOG,
             value: 0,
             next: 0,

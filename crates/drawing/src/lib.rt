@@ -8,21 +8,19 @@ use text::words::{find, part};
 // A text in which each `#` stands for the next number.
 pub fn write_form(descriptor: i32, form: &[u8], numbers: &[u64]) {
     let mut at = 0;
-    let mut turns: usize = 0;
-    while turns < numbers.len() {
+    for number in numbers {
         at = write_piece(descriptor, form, at);
-        write_long(descriptor, numbers[turns]);
-        turns += 1;
+        write_long(descriptor, *number);
     }
     write_piece(descriptor, form, at);
 }
 
 // What stands from a place up to the next `#`; answers the place behind it.
 fn write_piece(descriptor: i32, form: &[u8], at: usize) -> usize {
-    let rest = part(form, at, std::num::wrapping_sub_usize(form.len(), at));
+    let rest = part(form, at, form.len().wrapping_sub(at));
     let count = find(rest, b'#');
     write_text(descriptor, part(rest, 0, count));
-    std::num::wrapping_add_usize(at, std::num::wrapping_add_usize(count, 1))
+    at.wrapping_add(count).wrapping_add(1)
 }
 
 // An attribute; `name` comes with the space before it and the `="` behind it.
@@ -81,10 +79,8 @@ pub fn repeated_shape(descriptor: i32, class: &[u8], x: u64, y: u64, steps: &[u8
 }
 
 fn write_times(descriptor: i32, text: &[u8], times: u8) {
-    let mut left = times;
-    while 0 < left {
+    for _ in 0..times {
         write_text(descriptor, text);
-        left -= 1;
     }
 }
 
@@ -124,10 +120,8 @@ pub fn number(descriptor: i32, class: &[u8], x: u64, y: u64, value: u64) {
 
 // A text that may hold any bytes, such as a file's name. What XML does not take, or no reader could tell, becomes a question mark.
 pub fn write_escaped(descriptor: i32, words: &[u8]) {
-    let mut at = 0;
-    while at < words.len() {
+    for at in 0..words.len() {
         write_character(descriptor, words, at);
-        at += 1;
     }
 }
 
@@ -145,8 +139,8 @@ fn write_character(descriptor: i32, words: &[u8], at: usize) {
 // Letters such as those of German and French are two bytes of UTF-8; longer characters are not passed on.
 fn write_wide(descriptor: i32, words: &[u8], at: usize) {
     let byte = octet_at(words, at);
-    let before = octet_at(words, std::num::wrapping_sub_usize(at, 1));
-    let behind = octet_at(words, std::num::wrapping_add_usize(at, 1));
+    let before = octet_at(words, at.wrapping_sub(1));
+    let behind = octet_at(words, at.wrapping_add(1));
     if is_first(byte) & is_second(behind) {
         write_text(descriptor, part(words, at, 1));
         return;

@@ -2,34 +2,34 @@
 use Prim.Native.Nat.{ℕ, ◌+◌, ◌≤◌, ◌<◌}
 use mathlib.Core.Path.{◌≡◌, refl}
 use mathlib.Core.List.{List}
-use mathlib.Core.Bool.{Bool, true, false, cond}
-use native.Mathlib.Omega.{arith}
+use mathlib.Core.Bool.{true, false}
 use lib.ListN.{length, get_or}
 use lib.Dec.{leb}
-use borrow.Author.Tests.{le-leb, lt-leb, leb-true, leb-false}
+use borrow.Author.Tests.{le-leb, lt-leb, leb-true}
 use Rattle.octets.proofs.Choice.{at_cond}
 use Rattle.octets.specs.declared.Run.{Run}
-use Rattle.element.specs.declared.Counted.{Counted}
-use Rattle.element.specs.declared.Counted.TheVariants.{Octets, CutShort, WrongLength}
+use Rattle.std.specs.Prelude.{Result, Ok, Err}
+use Rattle.element.specs.declared.Miscount.{Miscount}
+use Rattle.element.specs.declared.Miscount.TheVariants.{CutShort, WrongLength}
 use Rattle.element.specs.Elements.{within}
 use Rattle.element.specs.Counted.{counted_at}
 
 module _ (s : List ℕ) (at low high : ℕ) where
-  pub counted_none : length s ≤ at → CutShort ≡ counted_at s at low high
+  pub counted_none : length s ≤ at → Err CutShort ≡ counted_at s at low high
   unfolding counted_at
   counted_none h = simp (le-leb _ _ h)
 
-  pub counted-wrong : at < length s → within (get_or s at 0) low high ≡ false → WrongLength ≡ counted_at s at low high
+  pub counted-wrong : at < length s → within (get_or s at 0) low high ≡ false → Err WrongLength ≡ counted_at s at low high
   unfolding counted_at
   counted-wrong h w = simp (lt-leb _ _ h, w)
 
   pub counted-cut : at < length s → within (get_or s at 0) low high ≡ true → length s < at + 1 + get_or s at 0
-      → CutShort ≡ counted_at s at low high
+      → Err CutShort ≡ counted_at s at low high
   unfolding counted_at
   counted-cut h w k = simp (lt-leb _ _ h, w, lt-leb _ _ k)
 
   pub counted-there : at < length s → within (get_or s at 0) low high ≡ true → at + 1 + get_or s at 0 ≤ length s
-      → Octets (record { start = at + 1; count = get_or s at 0 }) ≡ counted_at s at low high
+      → Ok (record { start = at + 1; count = get_or s at 0 }) ≡ counted_at s at low high
   unfolding counted_at
   counted-there h w k = simp (lt-leb _ _ h, w, le-leb _ _ k)
 
@@ -40,10 +40,9 @@ module _ (s : List ℕ) (at low high : ℕ) where
     pub within : within r.count low high ≡ true
     pub fits : r.start + r.count ≤ length s
 
-  abbrev pub Told : Counted → Type 0
-  Told (Octets r) = Lies r
-  Told CutShort = Unit {0}
-  Told WrongLength = Unit {0}
+  abbrev pub Told : Result Run Miscount → Type 0
+  Told (Ok r) = Lies r
+  Told (Err miscount) = Unit {0}
 
   pub counted-told : Told (counted_at s at low high)
   unfolding counted_at

@@ -8,11 +8,8 @@ use lib.ListN.{length, get_or}
 use lib.Dec.{leb}
 use borrow.Author.Tests.{le-leb, lt-leb, leb-true, leb-false}
 use Rattle.octets.proofs.Choice.{at_cond, never}
-use Rattle.element.specs.declared.Found.{Found}
-use Rattle.element.specs.declared.Found.TheVariants.{At as FoundAt, Nothing}
-use Rattle.element.specs.declared.Next.{Next}
-use Rattle.element.specs.declared.Next.TheVariants.{At, PastEnd}
-use Rattle.element.specs.Elements.{within, next_element, onward, element_among, element_from}
+use Rattle.std.specs.Prelude.{Option, Some, None, option_and_then}
+use Rattle.element.specs.Elements.{within, next_element, element_among, element_from}
 
 -- The test of a range, its three ways.
 module _ (x low high : ℕ) where
@@ -38,52 +35,52 @@ module _ (x low high : ℕ) where
       go false b p q r = never r
 
 -- The next element lies further on.
-abbrev Further : ℕ → Next → Type 0
-Further i PastEnd = Unit {0}
-Further i (At j) = i < j
+abbrev Further : ℕ → Option ℕ → Type 0
+Further i None = Unit {0}
+Further i (Some j) = i < j
 
 further : (s : List ℕ) (i : ℕ) → Further i (next_element s i)
 unfolding next_element
 further s i =
-    at_cond (Further i) (leb 128 (get_or s i 0)) (At (i + 1)) _ (λ e. omega arith) λ e.
-    at_cond (Further i) (leb (i + 2 + get_or s (i + 1) 0) (length s)) (At (i + 2 + get_or s (i + 1) 0)) PastEnd (λ e. omega arith) (λ e. tt)
+    at_cond (Further i) (leb 128 (get_or s i 0)) (Some (i + 1)) _ (λ e. omega arith) λ e.
+    at_cond (Further i) (leb (i + 2 + get_or s (i + 1) 0) (length s)) (Some (i + 2 + get_or s (i + 1) 0)) None (λ e. omega arith) (λ e. tt)
 
-pub next-further : (s : List ℕ) (i j : ℕ) → next_element s i ≡ At j → i < j
+pub next-further : (s : List ℕ) (i j : ℕ) → next_element s i ≡ Some j → i < j
 next-further s i j e = subst (Further i) e (further s i)
 
-pub next_falls : (s : List ℕ) (i j : ℕ) → i < length s → next_element s i ≡ At j → length s - j < length s - i
+pub next_falls : (s : List ℕ) (i j : ℕ) → i < length s → next_element s i ≡ Some j → length s - j < length s - i
 next_falls s i j h e = let f : i < j = next-further s i j e in omega arith
 
 module _ (s : List ℕ) (low high i : ℕ) where
   -- Past the end nothing is found.
-  pub seek_end : (k : ℕ) → length s ≤ i → element_among k s i low high ≡ Nothing
+  pub seek_end : (k : ℕ) → length s ≤ i → element_among k s i low high ≡ None
   unfolding element_among
   seek_end zero h = refl
   seek_end (suc k) h = simp (le-leb _ _ h)
 
   -- What is meant is found where it stands.
   pub seek_here : (k : ℕ) → i < length s → length s ≤ i + k → within (get_or s i 0) low high ≡ true
-      → element_among k s i low high ≡ FoundAt i (get_or s i 0)
+      → element_among k s i low high ≡ Some (i, get_or s i 0)
   unfolding element_among
   seek_here zero h b w = let z : ⊥ = omega arith in elim z [ ]
   seek_here (suc k) h b w = simp (lt-leb _ _ h, w)
 
   -- An element that runs past the end is the last.
-  pub seek_cut : (k : ℕ) → i < length s → within (get_or s i 0) low high ≡ false → next_element s i ≡ PastEnd
-      → element_among k s i low high ≡ Nothing
+  pub seek_cut : (k : ℕ) → i < length s → within (get_or s i 0) low high ≡ false → next_element s i ≡ None
+      → element_among k s i low high ≡ None
   unfolding element_among
   seek_cut zero h w n = refl
   seek_cut (suc k) h w n = simp (lt-leb _ _ h, w, n)
 
   -- What the loop keeps: enough elements are allowed, and the answer from here is the whole answer.
-  pub record Seeks (r : Found) : Type 0 where
+  pub record Seeks (r : Option (ℕ × ℕ)) : Type 0 where
     pub most : ℕ
     pub enough : length s ≤ i + most
     pub same : element_among most s i low high ≡ r
 
 -- An element that is not meant is passed over.
-pub seek_on : (s : List ℕ) (low high i j : ℕ) (r : Found) → i < length s → within (get_or s i 0) low high ≡ false
-    → next_element s i ≡ At j → Seeks s low high i r → Seeks s low high j r
+pub seek_on : (s : List ℕ) (low high i j : ℕ) (r : Option (ℕ × ℕ)) → i < length s → within (get_or s i 0) low high ≡ false
+    → next_element s i ≡ Some j → Seeks s low high i r → Seeks s low high j r
 unfolding element_among
 seek_on s low high i j r h w n p = go p.most p.enough p.same
   where
@@ -104,26 +101,26 @@ unfolding element_among
 among_same zero l s low high i h g = sym (seek_end s low high i l (omega arith))
 among_same (suc k) zero s low high i h g = seek_end s low high i (suc k) (omega arith)
 among_same (suc k) (suc l) s low high i h g =
-    ap (λ (f : Found). cond (leb (length s) i) Nothing (cond (within (get_or s i 0) low high) (FoundAt i (get_or s i 0)) f))
+    ap (λ (f : Option (ℕ × ℕ)). cond (leb (length s) i) None (cond (within (get_or s i 0) low high) (Some (i, get_or s i 0)) f))
     (on (next_element s i) refl (λ j a b. among_same k l s low high j a b))
   where
-    on : (n : Next) → next_element s i ≡ n
+    on : (n : Option ℕ) → next_element s i ≡ n
         → ((j : ℕ) → length s ≤ j + k → length s ≤ j + l → element_among k s j low high ≡ element_among l s j low high)
-        → onward (λ j. element_among k s j low high) n ≡ onward (λ j. element_among l s j low high) n
-    on PastEnd e ih = refl
-    on (At j) e ih = let f : i < j = next-further s i j e in ih j (omega arith) (omega arith)
+        → option_and_then (λ j. element_among k s j low high) n ≡ option_and_then (λ j. element_among l s j low high) n
+    on None e ih = refl
+    on (Some j) e ih = let f : i < j = next-further s i j e in ih j (omega arith) (omega arith)
 
 -- The search from a place: past the end, at an element that is meant, and at one that is not.
 module _ (s : List ℕ) (low high i : ℕ) where
-  pub from_end : length s ≤ i → element_from s i low high ≡ Nothing
+  pub from_end : length s ≤ i → element_from s i low high ≡ None
   unfolding element_from
   from_end h = seek_end s low high i (length s) h
 
-  pub from_here : i < length s → within (get_or s i 0) low high ≡ true → element_from s i low high ≡ FoundAt i (get_or s i 0)
+  pub from_here : i < length s → within (get_or s i 0) low high ≡ true → element_from s i low high ≡ Some (i, get_or s i 0)
   unfolding element_from
   from_here h w = seek_here s low high i (length s) h (omega arith) w
 
-  pub from_next : (j : ℕ) → i < length s → within (get_or s i 0) low high ≡ false → next_element s i ≡ At j
+  pub from_next : (j : ℕ) → i < length s → within (get_or s i 0) low high ≡ false → next_element s i ≡ Some j
       → element_from s i low high ≡ element_from s j low high
   unfolding element_from
   from_next j h w n =
@@ -137,7 +134,7 @@ module _ (s : List ℕ) (low high i : ℕ) where
   unfolding next_element
   from_octet h w k = from_next (i + 1) h w one
     where
-      one : next_element s i ≡ At (i + 1)
+      one : next_element s i ≡ Some (i + 1)
       one = simp (le-leb _ _ k)
 
 -- What is found stands from `at` on, below the end, and is what was looked for.
@@ -147,13 +144,13 @@ pub record Stands (s : List ℕ) (at low high p x : ℕ) : Type 0 where
   pub octet : x ≡ get_or s p 0
   pub meant : within x low high ≡ true
 
-abbrev pub Told : List ℕ → ℕ → ℕ → ℕ → Found → Type 0
-Told s at low high Nothing = Unit {0}
-Told s at low high (FoundAt p x) = Stands s at low high p x
+abbrev pub Told : List ℕ → ℕ → ℕ → ℕ → Option (ℕ × ℕ) → Type 0
+Told s at low high None = Unit {0}
+Told s at low high (Some (p, x)) = Stands s at low high p x
 
-later : (s : List ℕ) (i j low high : ℕ) (f : Found) → i < j → Told s j low high f → Told s i low high f
-later s i j low high Nothing h t = tt
-later s i j low high (FoundAt p x) h t =
+later : (s : List ℕ) (i j low high : ℕ) (f : Option (ℕ × ℕ)) → i < j → Told s j low high f → Told s i low high f
+later s i j low high None h t = tt
+later s i j low high (Some (p, x)) h t =
     let k : j ≤ p = t.from in record { from = omega arith; below = t.below; octet = t.octet; meant = t.meant }
 
 told : (k : ℕ) (s : List ℕ) (at low high : ℕ) → Told s at low high (element_among k s at low high)
@@ -165,10 +162,10 @@ told (suc k) s at low high =
     (λ w. record { from = omega arith; below = leb-false _ _ e; octet = refl; meant = w })
     (λ w. on (next_element s at) refl (λ j. told k s j low high))
   where
-    on : (n : Next) → next_element s at ≡ n → ((j : ℕ) → Told s j low high (element_among k s j low high))
-        → Told s at low high (onward (λ j. element_among k s j low high) n)
-    on PastEnd e ih = tt
-    on (At j) e ih = later s at j low high (element_among k s j low high) (next-further s at j e) (ih j)
+    on : (n : Option ℕ) → next_element s at ≡ n → ((j : ℕ) → Told s j low high (element_among k s j low high))
+        → Told s at low high (option_and_then (λ j. element_among k s j low high) n)
+    on None e ih = tt
+    on (Some j) e ih = later s at j low high (element_among k s j low high) (next-further s at j e) (ih j)
 
 pub seek_told : (s : List ℕ) (at low high : ℕ) → Told s at low high (element_from s at low high)
 unfolding element_from

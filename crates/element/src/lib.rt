@@ -7,24 +7,9 @@ ghost use Rattle.element.specs.Counted.{counted_at};
 
 use octets::Run;
 
-// Where an element stands, and its identifier.
-#[derive(Clone, Copy)]
-pub enum Found {
-    At(usize, u8),
-    Nothing,
-}
-
-// Where the element behind another starts.
-#[derive(Clone, Copy)]
-pub enum Next {
-    At(usize),
-    PastEnd,
-}
-
-// What a length octet and the octets that it counts come to.
-#[derive(Clone, Copy)]
-pub enum Counted {
-    Octets(Run),
+// Why a length octet and the octets that it counts are not taken.
+#[derive(Clone, Copy, Debug, PartialEq, Eq)]
+pub enum Miscount {
     CutShort,
     WrongLength,
 }
@@ -33,71 +18,55 @@ pub enum Counted {
 fn is_within(octet: u8, low: u8, high: u8) -> bool
     ensures { result ≡ within octet low high }
 {
-    if low <= octet {
-        return octet <= high;
-    }
-    false
+    low <= octet && octet <= high
 }
 
 // Where the element behind the one at `at` starts, unless that one runs past the end.
-fn next_element(octets: &[u8], at: usize) -> Next
+fn next_element(octets: &[u8], at: usize) -> Option<usize>
     requires { at < length octets.now }
     ensures { result ≡ next_element octets.now at }
 {
     if 128 <= octets[at] {
-        return Next::At(at + 1);
+        return Some(at + 1);
     }
-    if octets.len() - at < 2 {
-        return Next::PastEnd;
-    }
-    let count = octets[at + 1] as usize;
+    let count = *octets.get(at + 1)? as usize;
     if octets.len() - at - 2 < count {
-        return Next::PastEnd;
+        return None;
     }
-    Next::At(at + 2 + count)
+    Some(at + 2 + count)
 }
 
-// The first element from `from` on whose identifier is `low` to `high`. An element that runs past the end is the last that is looked at.
-pub fn seek(octets: &[u8], from: usize, low: u8, high: u8) -> Found
+// The place and the identifier of the first element from `from` on whose identifier is `low` to `high`. An element that runs past the end is the last
+// that is looked at.
+pub fn seek(octets: &[u8], from: usize, low: u8, high: u8) -> Option<(usize, u8)>
     ensures { result ≡ element_from octets.now from low high }
 {
     let mut at = from;
-    let found = loop {
-        if octets.len() <= at {
-            break Found::Nothing;
-        }
+    while at < octets.len() {
         let identifier = octets[at];
         if is_within(identifier, low, high) {
-            break Found::At(at, identifier);
+            return Some((at, identifier));
         }
-        match next_element(octets, at) {
-            Next::At(next) => {
-                at = next;
-            }
-            Next::PastEnd => {
-                break Found::Nothing;
-            }
-        }
-    };
-    found
+        at = next_element(octets, at)?;
+    }
+    None
 }
 
 // The octets behind the length octet at `at`, which is to be `low` to `high`.
-pub fn counted_at(octets: &[u8], at: usize, low: u8, high: u8) -> Counted
+pub fn counted_at(octets: &[u8], at: usize, low: u8, high: u8) -> Result<Run, Miscount>
     ensures { result ≡ counted_at octets.now at low high }
 {
-    if octets.len() <= at {
-        return Counted::CutShort;
-    }
-    let number = octets[at];
+    let Some(&number) = octets.get(at) else {
+        return Err(Miscount::CutShort);
+    };
     if !is_within(number, low, high) {
-        return Counted::WrongLength;
+        return Err(Miscount::WrongLength);
     }
     let count = number as usize;
     if octets.len() - at <= count {
-        return Counted::CutShort;
+        return Err(Miscount::CutShort);
     }
-    Counted::Octets(Run {
+    Ok(Run {
         start: at + 1,
         count,
     })

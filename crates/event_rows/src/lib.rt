@@ -19,8 +19,8 @@ const SET_UP: Decision = Decision::Take(Taken {
     next: State::U0p,
     actions: action::REQUEST_MM,
     sends: Send::Nothing,
-    stops: Timer::NoTimer,
-    sets: Timer::MmEst,
+    stops: None,
+    sets: Some(Timer::MmEst),
     stores: Stores::ValueAndReference,
     memory: Memory::Keep,
     note: Note::Nothing,
@@ -31,8 +31,8 @@ const IMMEDIATE_SET_UP: Decision = Decision::Take(Taken {
     next: State::U1,
     actions: action::NONE,
     sends: Send::ImmediateSetup,
-    stops: Timer::NoTimer,
-    sets: Timer::MmEst,
+    stops: None,
+    sets: Some(Timer::MmEst),
     stores: Stores::ValueAndReference,
     memory: Memory::Keep,
     note: Note::Nothing,
@@ -43,8 +43,8 @@ const ESTABLISHED: Decision = Decision::Take(Taken {
     next: State::U1,
     actions: action::NONE,
     sends: Send::Setup,
-    stops: Timer::MmEst,
-    sets: Timer::NoTimer,
+    stops: Some(Timer::MmEst),
+    sets: None,
     stores: Stores::Nothing,
     memory: Memory::Keep,
     note: Note::Nothing,
@@ -55,8 +55,8 @@ const RECEIVE_MODE_ENTERED: Decision = Decision::Take(Taken {
     next: State::U6,
     actions: action::INFORM,
     sends: Send::Nothing,
-    stops: Timer::ConnReq,
-    sets: Timer::NoTimer,
+    stops: Some(Timer::ConnReq),
+    sets: None,
     stores: Stores::Nothing,
     memory: Memory::Keep,
     note: Note::Nothing,
@@ -67,8 +67,8 @@ const NO_CHANNEL: Decision = Decision::Take(Taken {
     next: State::U6,
     actions: action::INFORM,
     sends: Send::Nothing,
-    stops: Timer::NoTimer,
-    sets: Timer::NoChannel,
+    stops: None,
+    sets: Some(Timer::NoChannel),
     stores: Stores::Nothing,
     memory: Memory::Keep,
     note: Note::Nothing,
@@ -79,8 +79,8 @@ const STILL_NO_CHANNEL: Decision = Decision::Take(Taken {
     next: State::U6,
     actions: action::INFORM,
     sends: Send::Nothing,
-    stops: Timer::NoTimer,
-    sets: Timer::NoTimer,
+    stops: None,
+    sets: None,
     stores: Stores::Nothing,
     memory: Memory::Keep,
     note: Note::Nothing,
@@ -91,8 +91,8 @@ const CHANNEL_AVAILABLE: Decision = Decision::Take(Taken {
     next: State::U6,
     actions: action::INFORM,
     sends: Send::Nothing,
-    stops: Timer::NoChannel,
-    sets: Timer::NoTimer,
+    stops: Some(Timer::NoChannel),
+    sets: None,
     stores: Stores::Nothing,
     memory: Memory::Keep,
     note: Note::Nothing,
@@ -224,6 +224,7 @@ fn in_u6(table: Table, context: Context, number: u8) -> Decision
 }
 
 // An event that is no message, in the context's state, by the tables of broadcast calls. The sub-states of U2 have no row: these tables are of broadcast calls.
+#[tactic(auto, unfolding(transitions::specs::Table::happened_in))]
 fn happened(table: Table, context: Context, number: u8) -> Decision
     ensures { result ≡ happened_in (rows_of Broadcast table) context.state context number }
 {
@@ -237,12 +238,7 @@ fn happened(table: Table, context: Context, number: u8) -> Decision
         State::U4 => in_u4(table, context, number),
         State::U5 => in_u5(table, context, number),
         State::U6 => in_u6(table, context, number),
-        State::U2sl => Decision::NoStep,
-        State::U2wr => Decision::NoStep,
-        State::U2r => Decision::NoStep,
-        State::U2ws => Decision::NoStep,
-        State::U2sr => Decision::NoStep,
-        State::U2nc => Decision::NoStep,
+        _ => Decision::NoStep,
     }
 }
 

@@ -28,8 +28,5 @@ pub fn fault_number(fault: Fault) -> u8 {
 
 // The octet at a place, and 0 past the end.
 pub fn octet_at(octets: &[u8], at: usize) -> u8 {
-    if octets.len() <= at {
-        return 0;
-    }
-    octets[at]
+    octets.get(at).copied().unwrap_or(0)
 }

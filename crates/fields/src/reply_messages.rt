@@ -24,8 +24,8 @@ pub fn messages_of(protocol: Protocol, log: &[u8], reply: Run) -> Messages {
             count: first,
         },
         behind: Run {
-            start: std::num::wrapping_add_usize(start, first),
-            count: std::num::wrapping_sub_usize(count, first),
+            start: start.wrapping_add(first),
+            count: count.wrapping_sub(first),
         },
     }
 }
@@ -34,7 +34,7 @@ pub fn messages_of(protocol: Protocol, log: &[u8], reply: Run) -> Messages {
 fn first_count(protocol: Protocol, reply: &[u8]) -> usize {
     match protocol {
         Protocol::Broadcast => reply.len(),
-        Protocol::Group => shorter(count_by_type(reply), reply.len()),
+        Protocol::Group => count_by_type(reply).min(reply.len()),
     }
 }
 
@@ -44,11 +44,4 @@ fn count_by_type(reply: &[u8]) -> usize {
         message_type::STATUS => 5 + octet_at(reply, 2) as usize,
         _ => reply.len(),
     }
-}
-
-fn shorter(count: usize, most: usize) -> usize {
-    if most < count {
-        return most;
-    }
-    count
 }

@@ -1,146 +1,66 @@
-// The typed words of a command: numbers, octet strings, references. Words that are not good stay so to the end of the line, so a
-// command takes all its fields and then asks once whether the line was good (text::words::finished).
-ghost use Rattle.std.specs.Prelude.{◌≤◌};
+// The typed words of a command: numbers, octet strings, references. Each answers what its word says and the place of the next word; none where that is no such word,
+// so a command takes all its fields by `?` and then asks once whether the line ended with them (text::words::finished).
+ghost use Rattle.std.specs.Prelude.{◌≤◌, IfSome};
 
-use message::Half;
 use octets::Reference;
 use text::decimal::number_of;
 use text::hex::read_hex;
-use text::words::{Words, next_word, part, same};
-
-#[derive(Clone, Copy)]
-pub struct NumberWord {
-    pub value: u64,
-    pub words: Words,
-}
-
-#[derive(Clone, Copy)]
-pub struct SmallWord {
-    pub value: u8,
-    pub words: Words,
-}
-
-#[derive(Clone, Copy)]
-pub struct HalfWord {
-    pub half: Half,
-    pub words: Words,
-}
-
-// Octets that were put over the start of a lent buffer or behind a place in it.
-#[derive(Clone, Copy)]
-pub struct OctetsWord {
-    pub count: usize,
-    pub words: Words,
-}
-
-#[derive(Clone, Copy)]
-pub struct ReferenceWord {
-    pub reference: Reference,
-    pub words: Words,
-}
+use text::words::{next_word, part};
 
 // A number of at most `most`.
-pub fn number_word(line: &[u8], words: Words, most: u64) -> NumberWord
-    ensures { result.value ≤ most }
+pub fn number_word(line: &[u8], at: usize, most: u64) -> Option<(u64, usize)>
+    ensures { IfSome result (λ w. w.0 ≤ most) }
 {
-    let word = next_word(line, words);
-    let start = word.start;
-    let count = word.count;
-    let rest = word.words;
-    let number = number_of(part(line, start, count), most);
-    let next = Words {
-        at: rest.at,
-        good: rest.good & number.good,
-    };
-    NumberWord {
-        value: number.value,
-        words: next,
+    let word = next_word(line, at)?;
+    let number = number_of(part(line, word.start, word.count), most)?;
+    Some((number, word.next))
+}
+
+// The place behind the word `-`, if that is the next one.
+fn behind_dash(line: &[u8], at: usize) -> Option<usize> {
+    let word = next_word(line, at)?;
+    match part(line, word.start, word.count) {
+        b"-" => Some(word.next),
+        _ => None,
     }
-}
-
-// A number of at most `most`, in one octet.
-pub fn small_word(line: &[u8], words: Words, most: u8) -> SmallWord {
-    let number = number_word(line, words, most as u64);
-    let next = number.words;
-    SmallWord {
-        value: number.value as u8,
-        words: next,
-    }
-}
-
-// Whether the next word is `-`.
-fn is_dash(line: &[u8], words: Words) -> bool {
-    let word = next_word(line, words);
-    let start = word.start;
-    let count = word.count;
-    same(part(line, start, count), b"-")
-}
-
-// Passes the next word over.
-fn passed(line: &[u8], words: Words) -> Words {
-    let word = next_word(line, words);
-    word.words
 }
 
 // A number of at most 255, or `-` for none.
-pub fn half_word(line: &[u8], words: Words) -> HalfWord {
-    if is_dash(line, words) {
-        let next = passed(line, words);
-        return HalfWord {
-            half: Half::Absent,
-            words: next,
-        };
+pub fn half_word(line: &[u8], at: usize) -> Option<(Option<u8>, usize)> {
+    if let Some(next) = behind_dash(line, at) {
+        return Some((None, next));
     }
-    let small = small_word(line, words, 255);
-    let next = small.words;
-    HalfWord {
-        half: Half::Present(small.value),
-        words: next,
-    }
+    let (number, next) = number_word(line, at, 255)?;
+    Some((Some(number as u8), next))
 }
 
-// Octets in lower-case hexadecimal, or `-` for none, put over those of `buffer` from `at` on.
-pub fn octets_word(line: &[u8], words: Words, buffer: &mut [u8], at: usize) -> OctetsWord {
-    if is_dash(line, words) {
-        let next = passed(line, words);
-        return OctetsWord {
-            count: 0,
-            words: next,
-        };
+// Octets in lower-case hexadecimal, or `-` for none, put over those of `buffer` from a place on: how many there are.
+pub fn octets_word(
+    line: &[u8],
+    at: usize,
+    buffer: &mut [u8],
+    place: usize,
+) -> Option<(usize, usize)> {
+    if let Some(next) = behind_dash(line, at) {
+        return Some((0, next));
     }
-    let word = next_word(line, words);
-    let start = word.start;
-    let count = word.count;
-    let rest = word.words;
-    let spelt = read_hex(part(line, start, count), false, buffer, at);
-    let next = Words {
-        at: rest.at,
-        good: rest.good & spelt.good,
-    };
-    OctetsWord {
-        count: spelt.count,
-        words: next,
-    }
+    let word = next_word(line, at)?;
+    let count = read_hex(part(line, word.start, word.count), false, buffer, place)?;
+    Some((count, word.next))
 }
 
 // Exactly four octets.
-pub fn reference_word(line: &[u8], words: Words) -> ReferenceWord {
+pub fn reference_word(line: &[u8], at: usize) -> Option<(Reference, usize)> {
     let mut octets = [0u8; 4];
-    let word = octets_word(line, words, &mut octets, 0);
-    let rest = word.words;
-    let four = word.count == 4;
+    let (count, next) = octets_word(line, at, &mut octets, 0)?;
+    if count != 4 {
+        return None;
+    }
     let reference = Reference {
         first: octets[0],
         second: octets[1],
         third: octets[2],
         fourth: octets[3],
     };
-    let next = Words {
-        at: rest.at,
-        good: rest.good & four,
-    };
-    ReferenceWord {
-        reference,
-        words: next,
-    }
+    Some((reference, next))
 }

@@ -5,15 +5,30 @@ use saying::{STDOUT_FILENO, complain, write_long, write_text};
 use std::io::{Error, ErrorKind};
 use std_io::io::last_error;
 
-pub fn tell_verdict(rt: &HostRuntime, verdict: u8) {
-    let reached = all_told(last_error());
+// Why a word of a program does not end well: what it was given is refused, or it could not run. It was told already.
+#[derive(Clone, Copy, Debug, PartialEq, Eq)]
+pub enum Failure {
+    Refused,
+    NotRun,
+}
+
+pub fn tell_verdict(rt: &HostRuntime, ended: Result<(), Failure>) {
+    let told = all_told(last_error());
     let descriptor = verdict_descriptor(rt);
-    if reached | (verdict == 2) {
-        write_verdict(descriptor, verdict);
+    if told | (ended == Err(Failure::NotRun)) {
+        write_verdict(descriptor, verdict_of(ended));
         return;
     }
     complain(b"heidezirkel: the answer could not be written whole: is the disk full?\n");
-    write_verdict(descriptor, 2);
+    write_verdict(descriptor, verdict_of(Err(Failure::NotRun)));
+}
+
+fn verdict_of(ended: Result<(), Failure>) -> u8 {
+    match ended {
+        Ok(()) => 0,
+        Err(Failure::Refused) => 1,
+        Err(Failure::NotRun) => 2,
+    }
 }
 
 // Nobody looks at what each write of an answer came to, but the number of the last error does not go away by what goes well: it is 0 since the last argument was read unless

@@ -2,12 +2,13 @@
 // program's word and the file's path.
 #![tactic(auto)]
 
-ghost use Rattle.std.specs.Prelude.{◌≡◌, ◌≤◌, length, IfOk};
+ghost use Rattle.std.specs.Prelude.{◌≡◌, ◌≤◌, length, IfOk, IfSome};
 
 pub mod arguments;
 pub mod ending;
 
 use arguments::{argument, has_option, verdict_on_3};
+use ending::Failure;
 use saying::complain;
 use saying::shown::complain_name;
 use std::fs::{File, OpenOptions, remove_file};
@@ -15,38 +16,47 @@ use std::io::{Error, ErrorKind, Read, Result, Write};
 use std::os::fd::AsRawFd;
 use std::str::from_utf8;
 use text::output::{Output, put};
-use text::words::{find, part, same};
+use text::words::{find, part};
 
-// Whether the file could be read, how many bytes of it the buffer holds now, and whether that is the whole file. Where it could
-// not be read, there are none.
+// What was read of a file into a lent buffer, and whether that is the whole file.
 #[derive(Clone, Copy)]
-pub struct Filed {
-    pub good: bool,
-    pub count: usize,
+pub struct Filed<'a> {
+    pub octets: &'a [u8],
     pub whole: bool,
 }
 
+// How many bytes of a file were read, and whether there are no more.
+#[derive(Clone, Copy)]
+struct Filled {
+    count: usize,
+    whole: bool,
+}
+
 // Reads the file from its start, as much as the buffer holds; `-` is standard input. `word` is the program's word that wants it, as in `heidezirkel show`.
-pub fn read_file(rt: &HostRuntime, word: &[u8], path: &[u8], buffer: &mut [u8]) -> Filed
-    ensures { result.count ≤ length buffer.new }
+pub fn read_file<'a>(
+    rt: &HostRuntime,
+    word: &[u8],
+    path: &[u8],
+    buffer: &'a mut [u8],
+) -> std::result::Result<Filed<'a>, Failure>
+    ensures { IfOk result (λ filed. length filed.octets.now ≤ length buffer.old) }
 {
     match read_path(rt, path, buffer) {
-        Ok(filed) => filed,
+        Ok(filled) => Ok(Filed {
+            octets: &buffer[..filled.count],
+            whole: filled.whole,
+        }),
         Err(error) => {
             complain_of(word, path, error);
-            Filed {
-                good: false,
-                count: 0,
-                whole: false,
-            }
+            Err(Failure::NotRun)
         }
     }
 }
 
-fn read_path(rt: &HostRuntime, path: &[u8], buffer: &mut [u8]) -> Result<Filed>
-    ensures { IfOk result (λ filed. filed.count ≤ length buffer.new) }
+fn read_path(rt: &HostRuntime, path: &[u8], buffer: &mut [u8]) -> Result<Filled>
+    ensures { IfOk result (λ filled. filled.count ≤ length buffer.new) }
 {
-    if same(path, b"-") {
+    if let b"-" = path {
         let mut input = rt.stdin();
         return fill(&mut input, buffer);
     }
@@ -80,22 +90,26 @@ fn open_handed(rt: &HostRuntime, path: &[u8]) -> Result<File> {
 }
 
 // Reads the file that an argument of the word names.
-pub fn read_argument(rt: &HostRuntime, word: &[u8], place: usize, buffer: &mut [u8]) -> Filed {
+pub fn read_argument<'a>(
+    rt: &HostRuntime,
+    word: &[u8],
+    place: usize,
+    buffer: &'a mut [u8],
+) -> std::result::Result<Filed<'a>, Failure> {
     let mut name = io::buffer();
-    let count = argument(rt, place, &mut name);
-    read_file(rt, word, part(&name, 0, count), buffer)
+    read_file(rt, word, argument(rt, place, &mut name), buffer)
 }
 
 // Reads until the file ends or the buffer is full.
-fn fill<R: Read>(reader: &mut R, buffer: &mut [u8]) -> Result<Filed>
-    ensures { IfOk result (λ filed. filed.count ≤ length buffer.new) }
+fn fill<R: Read>(reader: &mut R, buffer: &mut [u8]) -> Result<Filled>
+    ensures { IfOk result (λ filled. filled.count ≤ length buffer.new) }
 {
     let mut have = 0;
+    // Steps by as many bytes as a read gives: no iterator goes so.
     while have < buffer.len() {
         let count = reader.read(&mut buffer[have..])?;
         if count == 0 {
-            return Ok(Filed {
-                good: true,
+            return Ok(Filled {
                 count: have,
                 whole: true,
             });
@@ -106,13 +120,12 @@ fn fill<R: Read>(reader: &mut R, buffer: &mut [u8]) -> Result<Filed>
 }
 
 // The buffer is full: whether the file ends here shows when one byte more is asked for.
-fn at_end<R: Read>(reader: &mut R, have: usize) -> Result<Filed>
-    ensures { IfOk result (λ filed. filed.count ≤ have) }
+fn at_end<R: Read>(reader: &mut R, have: usize) -> Result<Filled>
+    ensures { IfOk result (λ filled. filled.count ≤ have) }
 {
     let mut one = [0u8; 1];
     let count = reader.read(&mut one)?;
-    Ok(Filed {
-        good: true,
+    Ok(Filled {
         count: have,
         whole: count == 0,
     })
@@ -215,18 +228,22 @@ fn put_words(words: &mut [u8], error: Error) {
 fn words_before_number(words: &[u8]) -> usize {
     let number = find(words, b'(');
     if number < words.len() {
-        return std::num::wrapping_sub_usize(number, 1);
+        return number.wrapping_sub(1);
     }
     find(words, 0)
 }
 
 // Makes a file that is not there yet. A file that is there stays as it is.
-pub fn create_file(rt: &HostRuntime, word: &[u8], path: &[u8]) -> Option<File> {
+pub fn create_file(
+    rt: &HostRuntime,
+    word: &[u8],
+    path: &[u8],
+) -> std::result::Result<File, Failure> {
     match open_new(rt, path) {
-        Ok(file) => Some(file),
+        Ok(file) => Ok(file),
         Err(error) => {
             complain_of_making(rt, word, path, error);
-            None
+            Err(Failure::NotRun)
         }
     }
 }
@@ -242,10 +259,16 @@ fn open_new(rt: &HostRuntime, path: &[u8]) -> Result<File> {
 }
 
 // Closes a file that was made. Where something of it could not be written (`whole` is false), the file is taken away again: half a file is worse than none.
-pub fn close_file(rt: &HostRuntime, word: &[u8], path: &[u8], file: File, whole: bool) -> bool {
+pub fn close_file(
+    rt: &HostRuntime,
+    word: &[u8],
+    path: &[u8],
+    file: File,
+    whole: bool,
+) -> std::result::Result<(), Failure> {
     let kept = file.sync_all().is_ok();
     if whole & kept {
-        return true;
+        return Ok(());
     }
     complain_start(word);
     complain_why(
@@ -253,7 +276,7 @@ pub fn close_file(rt: &HostRuntime, word: &[u8], path: &[u8], file: File, whole:
         b"the file could not be written whole, and is taken away again: is the disk full?\n",
     );
     remove(rt, path);
-    false
+    Err(Failure::NotRun)
 }
 
 fn remove(rt: &HostRuntime, path: &[u8]) {
@@ -263,10 +286,13 @@ fn remove(rt: &HostRuntime, path: &[u8]) {
 }
 
 // Makes a new file with these octets, whole or not at all.
-pub fn write_file(rt: &HostRuntime, word: &[u8], path: &[u8], octets: &[u8]) -> bool {
-    let Some(file) = create_file(rt, word, path) else {
-        return false;
-    };
+pub fn write_file(
+    rt: &HostRuntime,
+    word: &[u8],
+    path: &[u8],
+    octets: &[u8],
+) -> std::result::Result<(), Failure> {
+    let file = create_file(rt, word, path)?;
     let whole = io::write_all(file.as_raw_fd(), octets);
     close_file(rt, word, path, file, whole)
 }

@@ -3,6 +3,7 @@ use Prim.Native.Nat.{◌≤◌}
 use mathlib.Core.Path.{◌≡◌, refl}
 use mathlib.Core.Bool.{Bool, true, false, cond, not, ◌&&◌, ◌||◌}
 use lib.Dec.{eqb, leb}
+use Rattle.std.specs.Prelude.{Some}
 use borrow.Author.Tests.{leb-true, not-true}
 use Rattle.octets.proofs.Choice.{never as impossible}
 use Rattle.codes.specs.declared.state.State.{State}
@@ -41,7 +42,7 @@ allowed d s = record {
 
 -- The timers where a pending termination request is sent.
 abbrev pub request_timers : Timers → Timers
-request_timers t = with_timer Term true (with_timer MmEst false t)
+request_timers t = with_timer (Some Term) true (with_timer (Some MmEst) false t)
 
 -- In a state in which a termination request may be pending T_term does not run and nothing is remembered, and U5 is a state.
 abbrev may_pend : Fitness → State → Bool

@@ -6,7 +6,7 @@ ghost use Rattle.codes.specs.declared.state.State.TheVariants.{U3, U5};
 ghost use Rattle.context.specs.States.{among};
 ghost use Rattle.context.specs.Remembered.{is_something};
 ghost use Rattle.fitness.specs.Fitness.{obeys, consistent_by, among_choosers, choosers_in, nothing_runs, timers_fit_by, remembered_fit_by, is_silent, talk_fit_by, is_cleared, fit_by};
-ghost use Rattle.fitness.specs.Tables.{fitness_of, term_runs, invitation_runs, remembering_states, choosers_of, group_pending, state_fits};
+ghost use Rattle.fitness.specs.Tables.{fitness_of, term_runs, invitation_runs, remembering_states, sub_states, requesting_states, asked_states, choosers_of, group_pending, state_fits};
 ghost use Rattle.codes.specs.declared.protocol.Protocol.TheVariants.{Group};
 ghost use Rattle.version.specs.declared.Table.TheVariants as Table;
 
@@ -25,24 +25,14 @@ pub fn is_consistent(table: Table, state: State, parameters: Parameters) -> bool
 }
 
 // The same of the two parameters that a state asks about. They come one by one, since four that are passed as one are first put together.
+#[tactic(auto, unfolding(crate::specs::Fitness::consistent_by, crate::specs::Tables::fitness_of))]
 fn fits_state(table: Table, state: State, orig: bool, comm: bool) -> bool
     ensures { result ≡ consistent_by (fitness_of table) state (record { orig = orig; comm = comm; datt = false; uatt = false }) }
 {
     match state {
-        State::U0 => !comm,
-        State::U0p => true,
-        State::U1 => true,
-        State::U2 => true,
-        State::U3 => !orig & !comm,
-        State::U4 => !orig & !comm,
-        State::U5 => true,
-        State::U6 => !orig & !comm,
-        State::U2sl => true,
-        State::U2wr => true,
-        State::U2r => !comm,
-        State::U2ws => true,
-        State::U2sr => true,
-        State::U2nc => !comm,
+        State::U0 | State::U2r | State::U2nc => !comm,
+        State::U3 | State::U4 | State::U6 => !orig & !comm,
+        _ => true,
     }
 }
 
@@ -52,9 +42,7 @@ fn term_fits(table: Table, running: bool) -> bool
 {
     match table {
         Table::First => true,
-        Table::Second => running,
-        Table::Third => running,
-        Table::Group => running,
+        Table::Second | Table::Third | Table::Group => running,
     }
 }
 
@@ -63,10 +51,8 @@ fn invitation_fits(table: Table, running: bool) -> bool
     ensures { result ≡ obeys (invitation_runs table) running }
 {
     match table {
-        Table::First => !running,
-        Table::Second => !running,
+        Table::First | Table::Second | Table::Group => !running,
         Table::Third => running,
-        Table::Group => !running,
     }
 }
 
@@ -97,15 +83,7 @@ fn timers_fit_u5(table: Table, timers: Timers) -> bool
 fn is_something(remembered: Remembered) -> bool
     ensures { result ≡ is_something remembered }
 {
-    match remembered {
-        Remembered::Nothing => false,
-        Remembered::U1 => true,
-        Remembered::U2 => true,
-        Remembered::U2sl => true,
-        Remembered::U2wr => true,
-        Remembered::U2ws => true,
-        Remembered::U2sr => true,
-    }
+    !matches!(remembered, Remembered::Nothing)
 }
 
 // Whether the table has something remembered in a state.
@@ -114,20 +92,28 @@ fn remembers(table: Table, state: State) -> bool
 {
     match table {
         Table::First => false,
-        Table::Second => context::state_number(state) == 6,
-        Table::Third => context::state_number(state) == 6,
-        Table::Group => context::state_number(state) == 6,
+        Table::Second | Table::Third | Table::Group => matches!(state, State::U5),
     }
 }
 
+// Whether the state is a sub-state of U2.
+fn is_sub_state(state: State) -> bool
+    ensures { result ≡ among state sub_states }
+{
+    matches!(
+        state,
+        State::U2sl | State::U2wr | State::U2r | State::U2ws | State::U2sr | State::U2nc
+    )
+}
+
 // Whether the table has the state.
+#[tactic(auto, unfolding(crate::specs::Tables::fitness_of))]
 fn has_state(table: Table, state: State) -> bool
     ensures { result ≡ among state (fitness_of table).states }
 {
-    let number = context::state_number(state);
     match version::protocol(table) {
-        Protocol::Broadcast => number < 8,
-        Protocol::Group => (number != 3) & (number != 7),
+        Protocol::Broadcast => !is_sub_state(state),
+        Protocol::Group => !matches!(state, State::U2 | State::U6),
     }
 }
 
@@ -157,42 +143,43 @@ fn remembered_fits(table: Table, state: State, remembered: Remembered) -> bool
 fn is_silent(talk: Talk) -> bool
     ensures { result ≡ is_silent talk }
 {
-    let chooser = talk.chooser;
-    let number = context::chooser_number(chooser);
-    (number == 0) & (!talk.termination & (!talk.status & !talk.awaiting))
+    let none = matches!(talk.chooser, Chooser::Neither);
+    none & (!talk.termination & (!talk.status & !talk.awaiting))
 }
 
 // Whether who chose the value may have, in a group call's state.
 fn chooser_fits(state: State, chooser: Chooser) -> bool
     ensures { result ≡ among_choosers chooser (choosers_in state (choosers_of Group)) }
 {
-    let number = context::chooser_number(chooser);
     match state {
-        State::U0 => number == 0,
-        State::U0p => number == 1,
-        State::U1 => number == 1,
-        State::U2 => number == 0,
-        State::U3 => number == 2,
-        State::U4 => number == 2,
-        State::U5 => number == 0,
-        State::U6 => number == 0,
-        State::U2sl => (number == 1) | (number == 2),
-        State::U2wr => (number == 1) | (number == 2),
-        State::U2r => (number == 1) | (number == 2),
-        State::U2ws => (number == 1) | (number == 2),
-        State::U2sr => (number == 1) | (number == 2),
-        State::U2nc => (number == 1) | (number == 2),
+        State::U0 | State::U2 | State::U5 | State::U6 => matches!(chooser, Chooser::Neither),
+        State::U0p | State::U1 => matches!(chooser, Chooser::Us),
+        State::U3 | State::U4 => matches!(chooser, Chooser::Cell),
+        _ => !matches!(chooser, Chooser::Neither),
     }
 }
 
-// Whether what is pending in a group call, and what is awaited, may be so in the state. U1 has the number 2; the sub-states of U2 have 8 and over.
+// Whether a termination request may be pending in the state.
+fn may_request(state: State) -> bool
+    ensures { result ≡ among state (requesting_states Group) }
+{
+    matches!(state, State::U1) | is_sub_state(state)
+}
+
+// Whether a STATUS may be.
+fn may_be_asked(state: State) -> bool
+    ensures { result ≡ among state (asked_states Group) }
+{
+    !matches!(state, State::U0 | State::U2 | State::U6)
+}
+
+// Whether what is pending in a group call, and what is awaited, may be so in the state.
 fn pending_fits(state: State, orig: bool, comm: bool, talk: Talk) -> bool
     ensures { result ≡ group_pending state (record { orig = orig; comm = comm; datt = false; uatt = false }) talk }
 {
-    let number = context::state_number(state);
-    let within = 8 <= number;
-    let requesting = (number == 2) | within;
-    let asked = (number != 0) & ((number != 3) & (number != 7));
+    let within = is_sub_state(state);
+    let requesting = may_request(state);
+    let asked = may_be_asked(state);
     let request = !talk.termination | (requesting & !(orig & comm));
     let status = !talk.status | (asked & !comm);
     let value = !talk.awaiting | (within & !orig);
@@ -224,35 +211,28 @@ fn talk_fits(table: Table, context: Context) -> bool
 {
     let talk = context.talk;
     match table {
-        Table::First => is_silent(talk),
-        Table::Second => is_silent(talk),
-        Table::Third => is_silent(talk),
+        Table::First | Table::Second | Table::Third => is_silent(talk),
         Table::Group => group_talk_fits(context),
     }
 }
 
 // Whether the timers that run are those of the state.
+#[tactic(auto, unfolding(crate::specs::Fitness::timers_fit_by, crate::specs::Tables::fitness_of))]
 fn timers_fit(table: Table, state: State, timers: Timers) -> bool
     ensures { result ≡ timers_fit_by (fitness_of table) state timers }
 {
     match state {
-        State::U0 => none_run(timers),
         State::U0p => timers.mmest
             & (!timers.term & (!timers.connreq & (!timers.nochannel & !timers.pres))),
         State::U1 => !timers.term & (!timers.connreq & (!timers.nochannel & !timers.pres)),
-        State::U2 => none_run(timers),
         State::U3 => timers_fit_u3(table, timers),
         State::U4 => !timers.mmest
             & (!timers.term & (timers.connreq & (!timers.nochannel & !timers.pres))),
         State::U5 => timers_fit_u5(table, timers),
         State::U6 => !timers.mmest & (!timers.term & (!timers.connreq & !timers.pres)),
-        State::U2sl => none_run(timers),
-        State::U2wr => none_run(timers),
-        State::U2r => none_run(timers),
-        State::U2ws => none_run(timers),
-        State::U2sr => none_run(timers),
         State::U2nc => !timers.mmest
             & (!timers.term & (!timers.connreq & (timers.nochannel & !timers.pres))),
+        _ => none_run(timers),
     }
 }
 
@@ -303,8 +283,8 @@ pub fn is_fit(table: Table, context: Context) -> bool
     if 6 < context.value {
         return false;
     }
-    if context::state_number(state) == 0 {
-        return is_cleared(context) & rest_fits(table, context);
+    match state {
+        State::U0 => is_cleared(context) & rest_fits(table, context),
+        _ => rest_fits(table, context),
     }
-    rest_fits(table, context)
 }

@@ -16,10 +16,9 @@ ghost use Rattle.std.specs.Prelude.{◌≤◌};
 
 use fields::octet_at;
 use fields::words::{half_word, number_word, octets_word};
-use message::Half;
 use saying::{say, say_hex, say_number};
 use text::output::Output;
-use text::words::{Words, next_word, part};
+use text::words::{next_word, part};
 
 // How many octets of the record a letter has.
 fn width(letter: u8) -> usize {
@@ -68,116 +67,106 @@ fn set(record: &mut [u8; 36], at: usize, octet: u8) {
     }
 }
 
-fn take_number(line: &[u8], words: Words, most: u64, record: &mut [u8; 36], at: usize) -> Words {
-    let word = number_word(line, words, most);
-    set(record, at, clipped(word.value));
-    word.words
+fn take_number(
+    line: &[u8],
+    at: usize,
+    most: u64,
+    record: &mut [u8; 36],
+    place: usize,
+) -> Option<usize> {
+    let (number, next) = number_word(line, at, most)?;
+    set(record, place, clipped(number));
+    Some(next)
 }
 
-fn take_exact(line: &[u8], words: Words, count: usize, record: &mut [u8; 36], at: usize) -> Words {
-    let word = octets_word(line, words, record, at);
-    let rest = word.words;
-    let exact = word.count == count;
-    Words {
-        at: rest.at,
-        good: rest.good & exact,
+fn take_exact(
+    line: &[u8],
+    at: usize,
+    count: usize,
+    record: &mut [u8; 36],
+    place: usize,
+) -> Option<usize> {
+    let (spelt, next) = octets_word(line, at, record, place)?;
+    if spelt != count {
+        return None;
     }
+    Some(next)
 }
 
 // The word is read once more into the record, where that has room for its octets.
-fn set_octets(line: &[u8], words: Words, most: u8, count: u8, record: &mut [u8; 36], at: usize) {
-    set(record, at, count);
+fn set_octets(line: &[u8], at: usize, most: u8, count: u8, record: &mut [u8; 36], place: usize) {
+    set(record, place, count);
     if count <= most {
-        octets_word(line, words, record, std::num::wrapping_add_usize(at, 1));
+        octets_word(line, at, record, place.wrapping_add(1));
     }
 }
 
 fn take_octets(
     line: &[u8],
-    words: Words,
+    at: usize,
     most: u8,
     record: &mut [u8; 36],
-    at: usize,
+    place: usize,
     octets: &mut [u8],
-) -> Words {
-    let word = octets_word(line, words, octets, 0);
-    set_octets(line, words, most, clipped(word.count as u64), record, at);
-    word.words
+) -> Option<usize> {
+    let (count, next) = octets_word(line, at, octets, 0)?;
+    set_octets(line, at, most, clipped(count as u64), record, place);
+    Some(next)
 }
 
-fn is_there(half: Half) -> u8 {
-    match half {
-        Half::Absent => 0,
-        Half::Present(_) => 1,
-    }
+fn take_half(line: &[u8], at: usize, record: &mut [u8; 36], place: usize) -> Option<usize> {
+    let (half, next) = half_word(line, at)?;
+    set(record, place, half.is_some() as u8);
+    set(record, place.wrapping_add(1), half.unwrap_or(0));
+    Some(next)
 }
 
-fn value_of(half: Half) -> u8 {
-    match half {
-        Half::Absent => 0,
-        Half::Present(value) => value,
-    }
-}
-
-fn take_half(line: &[u8], words: Words, record: &mut [u8; 36], at: usize) -> Words {
-    let word = half_word(line, words);
-    let half = word.half;
-    set(record, at, is_there(half));
-    set(record, std::num::wrapping_add_usize(at, 1), value_of(half));
-    word.words
-}
-
-fn pass_word(line: &[u8], words: Words) -> Words {
-    let word = next_word(line, words);
-    word.words
+fn pass_word(line: &[u8], at: usize) -> Option<usize> {
+    let word = next_word(line, at)?;
+    Some(word.next)
 }
 
 fn take_word(
     line: &[u8],
-    words: Words,
+    at: usize,
     letter: u8,
     record: &mut [u8; 36],
-    at: usize,
+    place: usize,
     octets: &mut [u8],
-) -> Words {
+) -> Option<usize> {
     match letter {
-        b'1'..=b'8' | b'L' => take_number(line, words, greatest(letter), record, at),
-        b'R' | b'M' => take_exact(line, words, width(letter), record, at),
-        b'C' | b'I' | b'O' => take_octets(line, words, most_octets(letter), record, at, octets),
-        b'H' => take_half(line, words, record, at),
-        b'K' => pass_word(line, words),
-        _ => words,
+        b'1'..=b'8' | b'L' => take_number(line, at, greatest(letter), record, place),
+        b'R' | b'M' => take_exact(line, at, width(letter), record, place),
+        b'C' | b'I' | b'O' => take_octets(line, at, most_octets(letter), record, place, octets),
+        b'H' => take_half(line, at, record, place),
+        b'K' => pass_word(line, at),
+        _ => Some(at),
     }
 }
 
-// Takes the words of a form into a record. Octets are put over the start of the lent ones, so a form has one O, behind C and I.
+// Takes the words of a form into a record, and answers the place behind them; none where one is not as its letter says. Octets are put over the start of the lent
+// ones, so a form has one O, behind C and I.
 pub fn take_words(
     line: &[u8],
-    words: Words,
+    at: usize,
     form: &[u8],
     record: &mut [u8; 36],
     octets: &mut [u8],
-) -> Words {
-    let mut rest = words;
-    let mut at = 0;
-    let mut step = 0;
-    while step < form.len() {
-        let letter = form[step];
-        rest = take_word(line, rest, letter, record, at, octets);
-        at = std::num::wrapping_add_usize(at, width(letter));
-        step += 1;
+) -> Option<usize> {
+    let mut next = at;
+    let mut place: usize = 0;
+    for letter in form {
+        next = take_word(line, next, *letter, record, place, octets)?;
+        place = place.wrapping_add(width(*letter));
     }
-    rest
+    Some(next)
 }
 
 // A length or a count of a record, but no more than `most`.
 pub fn up_to(octet: u8, most: usize) -> usize
     ensures { result ≤ most }
 {
-    if (octet as usize) < most {
-        return octet as usize;
-    }
-    most
+    usize::from(octet).min(most)
 }
 
 fn say_octets(buffer: &mut [u8], output: Output, count: u8, at: u8, octets: &[u8]) -> Output {
@@ -192,8 +181,7 @@ fn say_field(buffer: &mut [u8], output: Output, letter: u8, field: &[u8]) -> Out
     if (letter == b'H') & (octet_at(field, 0) == 0) {
         return say(buffer, output, b"-");
     }
-    let last = std::num::wrapping_sub_usize(field.len(), 1);
-    say_number(buffer, output, octet_at(field, last))
+    say_number(buffer, output, field.last().copied().unwrap_or(0))
 }
 
 fn say_letter(buffer: &mut [u8], output: Output, letter: u8) -> Output {
@@ -225,15 +213,12 @@ pub fn say_words(
     record: &[u8],
     octets: &[u8],
 ) -> Output {
-    let mut place = output;
-    let mut at = 0;
-    let mut step = 0;
-    while step < form.len() {
-        let letter = form[step];
-        let count = width(letter);
-        place = say_word(buffer, place, letter, part(record, at, count), octets);
-        at = std::num::wrapping_add_usize(at, count);
-        step += 1;
+    let mut end = output;
+    let mut place: usize = 0;
+    for letter in form {
+        let count = width(*letter);
+        end = say_word(buffer, end, *letter, part(record, place, count), octets);
+        place = place.wrapping_add(count);
     }
-    place
+    end
 }

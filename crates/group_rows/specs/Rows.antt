@@ -1,10 +1,10 @@
 -- Rows of a group call that several states have, as the code puts them together. The table itself is `transitions/specs/Table: group_rows`.
-use Rattle.std.specs.Prelude.{ℕ, List, [], ◌∷◌, ◌++◌, Bool, cond}
+use Rattle.std.specs.Prelude.{ℕ, List, [], ◌∷◌, ◌++◌, Bool, cond, Option, Some, None}
 use Rattle.codes.specs.declared.state.State.{State}
 use Rattle.codes.specs.declared.state.State.TheVariants.{U0, U5, U2sl, U2r, U2sr, U2nc}
 use Rattle.codes.specs.MessageTypes.{TERMINATION, GET-STATUS}
 use Rattle.timer.specs.declared.Timer.{Timer}
-use Rattle.timer.specs.declared.Timer.TheVariants.{NoTimer, Term, NoChannel}
+use Rattle.timer.specs.declared.Timer.TheVariants.{Term, NoChannel}
 use Rattle.context.specs.declared.Context.{Context}
 use Rattle.context.specs.declared.Remembered.{Remembered}
 use Rattle.context.specs.Remembered.{returning}
@@ -17,13 +17,13 @@ use Rattle.transitions.specs.declared.Decision.TheVariants.{Take, NoStep}
 use Rattle.transitions.specs.Table.{sentences, incompatible}
 
 -- A row that sends nothing and keeps what is stored and remembered.
-abbrev plain : State → ℕ → (stops sets : Timer) → Note → Decision
+abbrev plain : State → ℕ → (stops sets : Option Timer) → Note → Decision
 plain next actions stops sets n =
     Take (record { next = next; actions = actions; sends = Send.Nothing; stops = stops; sets = sets; stores = Stores.Nothing; memory = Keep; note = n })
 
 -- It stays in its state and notes something.
 abbrev pub staying : State → Note → Decision
-staying s n = plain s 0 NoTimer NoTimer n
+staying s n = plain s 0 None None n
 
 abbrev pub returned_to : Remembered → Decision
 returned_to r =
@@ -31,8 +31,8 @@ returned_to r =
       next = returning r U5;
       actions = 1;
       sends = Send.Nothing;
-      stops = Term;
-      sets = NoTimer;
+      stops = Some Term;
+      sets = None;
       stores = Stores.Nothing;
       memory = Forget;
       note = Note.Nothing;
@@ -40,25 +40,25 @@ returned_to r =
 
 -- No channel, where T_no channel runs or not.
 abbrev pub changing : Bool → Decision
-changing runs = plain U2nc 0 NoTimer (cond runs NoTimer NoChannel) Note.Nothing
+changing runs = plain U2nc 0 None (cond runs None (Some NoChannel)) Note.Nothing
 
 -- What every sub-state of U2 has of events; what a terminate request comes to is `asked`.
 abbrev pub sub_state_rows : State → Decision → Context → List (ℕ × Decision)
 sub_state_rows s asked x =
     (12, changing x.timers.nochannel) ∷
-    (11, plain U2r 0 NoChannel NoTimer Note.Nothing) ∷
-    (34, plain U2sr 0 NoChannel NoTimer Note.Nothing) ∷
-    (35, plain U2sl 0 NoChannel NoTimer Note.Nothing) ∷
+    (11, plain U2r 0 (Some NoChannel) None Note.Nothing) ∷
+    (34, plain U2sr 0 (Some NoChannel) None Note.Nothing) ∷
+    (35, plain U2sl 0 (Some NoChannel) None Note.Nothing) ∷
     (4, cond x.parameters.orig asked NoStep) ∷
     (36, cond x.talk.termination (staying s Note.TerminationDropped) NoStep) ∷
-    (5, plain U0 16 NoTimer NoTimer Note.Nothing) ∷
-    (9, plain U0 9 NoTimer NoTimer Note.Nothing) ∷
-    (8, plain U0 9 NoTimer NoTimer Note.Nothing) ∷
+    (5, plain U0 16 None None Note.Nothing) ∷
+    (9, plain U0 9 None None Note.Nothing) ∷
+    (8, plain U0 9 None None Note.Nothing) ∷
     []
 
 -- What a state has of messages in which GET STATUS stays and no other row is but that of TERMINATION.
 abbrev pub staying_rows : State → List (ℕ × Decision)
-staying_rows s = (GET-STATUS, staying s Note.StatusPends) ∷ (TERMINATION, plain U0 17 NoTimer NoTimer Note.Nothing) ∷ []
+staying_rows s = (GET-STATUS, staying s Note.StatusPends) ∷ (TERMINATION, plain U0 17 None None Note.Nothing) ∷ []
 
 abbrev pub staying_types : State → List (ℕ × Decision)
 staying_types s = staying_rows s ++ (sentences ++ incompatible)

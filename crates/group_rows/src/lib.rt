@@ -23,8 +23,8 @@ const SET_UP: Decision = Decision::Take(Taken {
     next: State::U0p,
     actions: action::REQUEST_MM,
     sends: Send::Nothing,
-    stops: Timer::NoTimer,
-    sets: Timer::MmEst,
+    stops: None,
+    sets: Some(Timer::MmEst),
     stores: Stores::ValueAndReference,
     memory: Memory::Keep,
     note: Note::WeChose,
@@ -35,8 +35,8 @@ const IMMEDIATE_SET_UP: Decision = Decision::Take(Taken {
     next: State::U1,
     actions: action::NONE,
     sends: Send::ImmediateSetup,
-    stops: Timer::NoTimer,
-    sets: Timer::MmEst,
+    stops: None,
+    sets: Some(Timer::MmEst),
     stores: Stores::ValueAndReference,
     memory: Memory::Keep,
     note: Note::WeChose,
@@ -47,8 +47,8 @@ const NOTIFIED: Decision = Decision::Take(Taken {
     next: State::U3,
     actions: action::INFORM,
     sends: Send::Nothing,
-    stops: Timer::NoTimer,
-    sets: Timer::NoTimer,
+    stops: None,
+    sets: None,
     stores: Stores::ValueAndReference,
     memory: Memory::Keep,
     note: Note::CellChose,
@@ -59,8 +59,8 @@ const JOINED: Decision = Decision::Take(Taken {
     next: State::U4,
     actions: action::REQUEST_GROUP_RECEIVE,
     sends: Send::Nothing,
-    stops: Timer::NoTimer,
-    sets: Timer::ConnReq,
+    stops: None,
+    sets: Some(Timer::ConnReq),
     stores: Stores::Nothing,
     memory: Memory::Keep,
     note: Note::Nothing,
@@ -71,8 +71,8 @@ const ESTABLISHED: Decision = Decision::Take(Taken {
     next: State::U1,
     actions: action::NONE,
     sends: Send::Setup,
-    stops: Timer::MmEst,
-    sets: Timer::NoTimer,
+    stops: Some(Timer::MmEst),
+    sets: None,
     stores: Stores::Nothing,
     memory: Memory::Keep,
     note: Note::Nothing,
@@ -83,8 +83,8 @@ const JOINED_RECEIVING: Decision = Decision::Take(Taken {
     next: State::U2r,
     actions: action::INFORM,
     sends: Send::Nothing,
-    stops: Timer::ConnReq,
-    sets: Timer::NoTimer,
+    stops: Some(Timer::ConnReq),
+    sets: None,
     stores: Stores::Nothing,
     memory: Memory::Keep,
     note: Note::Nothing,
@@ -94,8 +94,8 @@ const JOINED_SENDING: Decision = Decision::Take(Taken {
     next: State::U2sr,
     actions: action::INFORM,
     sends: Send::Nothing,
-    stops: Timer::ConnReq,
-    sets: Timer::NoTimer,
+    stops: Some(Timer::ConnReq),
+    sets: None,
     stores: Stores::Nothing,
     memory: Memory::Keep,
     note: Note::Nothing,
@@ -105,8 +105,8 @@ const JOINED_SEPARATELY: Decision = Decision::Take(Taken {
     next: State::U2sl,
     actions: action::INFORM,
     sends: Send::Nothing,
-    stops: Timer::ConnReq,
-    sets: Timer::NoTimer,
+    stops: Some(Timer::ConnReq),
+    sets: None,
     stores: Stores::Nothing,
     memory: Memory::Keep,
     note: Note::Nothing,
@@ -117,8 +117,8 @@ const RECEIVE_MODE_REQUESTED: Decision = Decision::Take(Taken {
     next: State::U2wr,
     actions: action::REQUEST_GROUP_RECEIVE,
     sends: Send::Nothing,
-    stops: Timer::NoTimer,
-    sets: Timer::NoTimer,
+    stops: None,
+    sets: None,
     stores: Stores::Nothing,
     memory: Memory::Keep,
     note: Note::Nothing,
@@ -129,8 +129,8 @@ const TALK_REQUESTED: Decision = Decision::Take(Taken {
     next: State::U2ws,
     actions: action::REQUEST_GROUP_TRANSMIT,
     sends: Send::Nothing,
-    stops: Timer::NoTimer,
-    sets: Timer::NoTimer,
+    stops: None,
+    sets: None,
     stores: Stores::Nothing,
     memory: Memory::Keep,
     note: Note::Nothing,
@@ -141,8 +141,8 @@ const RECEIVING: Decision = Decision::Take(Taken {
     next: State::U2r,
     actions: action::NONE,
     sends: Send::Nothing,
-    stops: Timer::NoChannel,
-    sets: Timer::NoTimer,
+    stops: Some(Timer::NoChannel),
+    sets: None,
     stores: Stores::Nothing,
     memory: Memory::Keep,
     note: Note::Nothing,
@@ -152,8 +152,8 @@ const SENDING: Decision = Decision::Take(Taken {
     next: State::U2sr,
     actions: action::NONE,
     sends: Send::Nothing,
-    stops: Timer::NoChannel,
-    sets: Timer::NoTimer,
+    stops: Some(Timer::NoChannel),
+    sets: None,
     stores: Stores::Nothing,
     memory: Memory::Keep,
     note: Note::Nothing,
@@ -163,8 +163,8 @@ const SEPARATE: Decision = Decision::Take(Taken {
     next: State::U2sl,
     actions: action::NONE,
     sends: Send::Nothing,
-    stops: Timer::NoChannel,
-    sets: Timer::NoTimer,
+    stops: Some(Timer::NoChannel),
+    sets: None,
     stores: Stores::Nothing,
     memory: Memory::Keep,
     note: Note::Nothing,
@@ -175,8 +175,8 @@ const NO_CHANNEL: Decision = Decision::Take(Taken {
     next: State::U2nc,
     actions: action::NONE,
     sends: Send::Nothing,
-    stops: Timer::NoTimer,
-    sets: Timer::NoChannel,
+    stops: None,
+    sets: Some(Timer::NoChannel),
     stores: Stores::Nothing,
     memory: Memory::Keep,
     note: Note::Nothing,
@@ -187,8 +187,8 @@ const STILL_NO_CHANNEL: Decision = Decision::Take(Taken {
     next: State::U2nc,
     actions: action::NONE,
     sends: Send::Nothing,
-    stops: Timer::NoTimer,
-    sets: Timer::NoTimer,
+    stops: None,
+    sets: None,
     stores: Stores::Nothing,
     memory: Memory::Keep,
     note: Note::Nothing,
@@ -199,8 +199,8 @@ const ASKED_IN_U2R: Decision = Decision::Take(Taken {
     next: State::U2ws,
     actions: action::REQUEST_GROUP_TRANSMIT,
     sends: Send::Nothing,
-    stops: Timer::NoTimer,
-    sets: Timer::NoTimer,
+    stops: None,
+    sets: None,
     stores: Stores::Nothing,
     memory: Memory::Keep,
     note: Note::TerminationPends,
@@ -211,8 +211,8 @@ const STATUS_IN_U2R: Decision = Decision::Take(Taken {
     next: State::U2ws,
     actions: action::REQUEST_GROUP_TRANSMIT,
     sends: Send::Nothing,
-    stops: Timer::NoTimer,
-    sets: Timer::NoTimer,
+    stops: None,
+    sets: None,
     stores: Stores::Nothing,
     memory: Memory::Keep,
     note: Note::StatusPends,
@@ -223,8 +223,8 @@ const CONNECTED: Decision = Decision::Take(Taken {
     next: State::U2sl,
     actions: action::NONE,
     sends: Send::Nothing,
-    stops: Timer::MmEst,
-    sets: Timer::NoTimer,
+    stops: Some(Timer::MmEst),
+    sets: None,
     stores: Stores::ItsReferenceAndOriginator,
     memory: Memory::Keep,
     note: Note::Nothing,
@@ -235,8 +235,8 @@ const CONNECTED_IMPLICITLY: Decision = Decision::Take(Taken {
     next: State::U2sl,
     actions: action::TELL_MM_EXISTS,
     sends: Send::Nothing,
-    stops: Timer::MmEst,
-    sets: Timer::NoTimer,
+    stops: Some(Timer::MmEst),
+    sets: None,
     stores: Stores::ItsReferenceAndOriginator,
     memory: Memory::Keep,
     note: Note::Nothing,
@@ -247,8 +247,8 @@ const TERMINATED: Decision = Decision::Take(Taken {
     next: State::U0,
     actions: action::INFORM + action::RELEASE,
     sends: Send::Nothing,
-    stops: Timer::NoTimer,
-    sets: Timer::NoTimer,
+    stops: None,
+    sets: None,
     stores: Stores::Nothing,
     memory: Memory::Keep,
     note: Note::Nothing,
@@ -267,8 +267,8 @@ fn staying(state: State, note: Note) -> Decision
         next: state,
         actions: action::NONE,
         sends: Send::Nothing,
-        stops: Timer::NoTimer,
-        sets: Timer::NoTimer,
+        stops: None,
+        sets: None,
         stores: Stores::Nothing,
         memory: Memory::Keep,
         note,
@@ -284,8 +284,8 @@ fn returned(remembered: Remembered) -> Decision
         next,
         actions: action::INFORM,
         sends: Send::Nothing,
-        stops: Timer::Term,
-        sets: Timer::NoTimer,
+        stops: Some(Timer::Term),
+        sets: None,
         stores: Stores::Nothing,
         memory: Memory::Forget,
         note: Note::Nothing,
@@ -468,6 +468,7 @@ fn in_u5(context: Context, number: u8) -> Decision
 }
 
 // What the table says of an event that is no message, in the context's state. U2 and U6 are no states of a group call.
+#[tactic(auto, unfolding(transitions::specs::Table::happened_in))]
 pub fn happened(context: Context, number: u8) -> Decision
     ensures { result ≡ happened_in (rows_of Group Table.Group) context.state context number }
 {
@@ -476,11 +477,10 @@ pub fn happened(context: Context, number: u8) -> Decision
         State::U0 => in_u0(context, number),
         State::U0p => in_u0p(context, number),
         State::U1 => in_u1(context, number),
-        State::U2 => Decision::NoStep,
+        State::U2 | State::U6 => Decision::NoStep,
         State::U3 => in_u3(context, number),
         State::U4 => in_u4(context, number),
         State::U5 => in_u5(context, number),
-        State::U6 => Decision::NoStep,
         State::U2sl => in_u2sl(context, number),
         State::U2wr => in_u2wr(context, number),
         State::U2r => in_u2r(context, number),
@@ -501,71 +501,75 @@ fn connected_in_u1(context: Context) -> Decision
     CONNECTED
 }
 
+#[tactic(auto, unfolding(transitions::specs::Table::heard_in))]
 fn heard_in_u0p(context: Context, code: u8) -> Decision
     ensures { result ≡ heard_in (rows_of Group Table.Group) U0p context code }
 {
     match code {
-        message_type::IMMEDIATE_SETUP => INCOMPATIBLE,
-        message_type::SETUP => INCOMPATIBLE,
         message_type::CONNECT => CONNECTED,
         message_type::TERMINATION => TERMINATED,
-        message_type::TERMINATION_REQUEST => INCOMPATIBLE,
-        message_type::TERMINATION_REJECT => INCOMPATIBLE,
-        message_type::STATUS => INCOMPATIBLE,
         message_type::GET_STATUS => staying(State::U0p, Note::StatusPends),
         message_type::SET_PARAMETER => Decision::SetParameters,
+        message_type::IMMEDIATE_SETUP
+        | message_type::SETUP
+        | message_type::TERMINATION_REQUEST
+        | message_type::TERMINATION_REJECT
+        | message_type::STATUS => INCOMPATIBLE,
         0..=48 | 55..=55 | 59..=255 => UNKNOWN,
     }
 }
 
+#[tactic(auto, unfolding(transitions::specs::Table::heard_in))]
 fn heard_in_u1(context: Context, code: u8) -> Decision
     ensures { result ≡ heard_in (rows_of Group Table.Group) U1 context code }
 {
     match code {
-        message_type::IMMEDIATE_SETUP => INCOMPATIBLE,
-        message_type::SETUP => INCOMPATIBLE,
         message_type::CONNECT => connected_in_u1(context),
         message_type::TERMINATION => TERMINATED,
-        message_type::TERMINATION_REQUEST => INCOMPATIBLE,
-        message_type::TERMINATION_REJECT => INCOMPATIBLE,
-        message_type::STATUS => INCOMPATIBLE,
         message_type::GET_STATUS => staying(State::U1, Note::StatusPends),
         message_type::SET_PARAMETER => Decision::SetParameters,
+        message_type::IMMEDIATE_SETUP
+        | message_type::SETUP
+        | message_type::TERMINATION_REQUEST
+        | message_type::TERMINATION_REJECT
+        | message_type::STATUS => INCOMPATIBLE,
         0..=48 | 55..=55 | 59..=255 => UNKNOWN,
     }
 }
 
+#[tactic(auto, unfolding(transitions::specs::Table::heard_in))]
 fn heard_in_u2r(context: Context, code: u8) -> Decision
     ensures { result ≡ heard_in (rows_of Group Table.Group) U2r context code }
 {
     match code {
-        message_type::IMMEDIATE_SETUP => INCOMPATIBLE,
-        message_type::SETUP => INCOMPATIBLE,
-        message_type::CONNECT => INCOMPATIBLE,
         message_type::TERMINATION => TERMINATED,
-        message_type::TERMINATION_REQUEST => INCOMPATIBLE,
-        message_type::TERMINATION_REJECT => INCOMPATIBLE,
-        message_type::STATUS => INCOMPATIBLE,
         message_type::GET_STATUS => STATUS_IN_U2R,
         message_type::SET_PARAMETER => Decision::SetParameters,
+        message_type::IMMEDIATE_SETUP
+        | message_type::SETUP
+        | message_type::CONNECT
+        | message_type::TERMINATION_REQUEST
+        | message_type::TERMINATION_REJECT
+        | message_type::STATUS => INCOMPATIBLE,
         0..=48 | 55..=55 | 59..=255 => UNKNOWN,
     }
 }
 
+#[tactic(auto, unfolding(transitions::specs::Table::heard_in))]
 fn heard_in_u5(context: Context, code: u8) -> Decision
     ensures { result ≡ heard_in (rows_of Group Table.Group) U5 context code }
 {
     let remembered = context.remembered;
     match code {
-        message_type::IMMEDIATE_SETUP => INCOMPATIBLE,
-        message_type::SETUP => INCOMPATIBLE,
-        message_type::CONNECT => INCOMPATIBLE,
         message_type::TERMINATION => TERMINATED,
-        message_type::TERMINATION_REQUEST => INCOMPATIBLE,
         message_type::TERMINATION_REJECT => returned(remembered),
-        message_type::STATUS => INCOMPATIBLE,
         message_type::GET_STATUS => staying(State::U5, Note::StatusPends),
         message_type::SET_PARAMETER => Decision::SetParameters,
+        message_type::IMMEDIATE_SETUP
+        | message_type::SETUP
+        | message_type::CONNECT
+        | message_type::TERMINATION_REQUEST
+        | message_type::STATUS => INCOMPATIBLE,
         0..=48 | 55..=55 | 59..=255 => UNKNOWN,
     }
 }
@@ -575,15 +579,15 @@ fn heard_staying(state: State, code: u8) -> Decision
     ensures { result ≡ rows code (Report 97) (staying_types state) }
 {
     match code {
-        message_type::IMMEDIATE_SETUP => INCOMPATIBLE,
-        message_type::SETUP => INCOMPATIBLE,
-        message_type::CONNECT => INCOMPATIBLE,
         message_type::TERMINATION => TERMINATED,
-        message_type::TERMINATION_REQUEST => INCOMPATIBLE,
-        message_type::TERMINATION_REJECT => INCOMPATIBLE,
-        message_type::STATUS => INCOMPATIBLE,
         message_type::GET_STATUS => staying(state, Note::StatusPends),
         message_type::SET_PARAMETER => Decision::SetParameters,
+        message_type::IMMEDIATE_SETUP
+        | message_type::SETUP
+        | message_type::CONNECT
+        | message_type::TERMINATION_REQUEST
+        | message_type::TERMINATION_REJECT
+        | message_type::STATUS => INCOMPATIBLE,
         0..=48 | 55..=55 | 59..=255 => UNKNOWN,
     }
 }
@@ -593,20 +597,21 @@ fn heard_nowhere(code: u8) -> Decision
     ensures { result ≡ rows code (Report 97) (sentences ++ incompatible) }
 {
     match code {
-        message_type::IMMEDIATE_SETUP => INCOMPATIBLE,
-        message_type::SETUP => INCOMPATIBLE,
-        message_type::CONNECT => INCOMPATIBLE,
-        message_type::TERMINATION => INCOMPATIBLE,
-        message_type::TERMINATION_REQUEST => INCOMPATIBLE,
-        message_type::TERMINATION_REJECT => INCOMPATIBLE,
-        message_type::STATUS => INCOMPATIBLE,
         message_type::GET_STATUS => Decision::TellStatus,
         message_type::SET_PARAMETER => Decision::SetParameters,
+        message_type::IMMEDIATE_SETUP
+        | message_type::SETUP
+        | message_type::CONNECT
+        | message_type::TERMINATION
+        | message_type::TERMINATION_REQUEST
+        | message_type::TERMINATION_REJECT
+        | message_type::STATUS => INCOMPATIBLE,
         0..=48 | 55..=55 | 59..=255 => UNKNOWN,
     }
 }
 
 // What the table says of a message of a type in the context's state.
+#[tactic(auto, unfolding(transitions::specs::Table::decided_by, transitions::specs::Table::decided_in, transitions::specs::Table::heard_in))]
 pub fn heard(context: Context, code: u8) -> Decision
     ensures { result ≡ decided_by (rows_of Group Table.Group) context 18 code }
 {
@@ -615,16 +620,9 @@ pub fn heard(context: Context, code: u8) -> Decision
         State::U0 => Decision::Ignore,
         State::U0p => heard_in_u0p(context, code),
         State::U1 => heard_in_u1(context, code),
-        State::U2 => heard_nowhere(code),
-        State::U3 => heard_staying(State::U3, code),
-        State::U4 => heard_staying(State::U4, code),
         State::U5 => heard_in_u5(context, code),
-        State::U6 => heard_nowhere(code),
-        State::U2sl => heard_staying(State::U2sl, code),
-        State::U2wr => heard_staying(State::U2wr, code),
         State::U2r => heard_in_u2r(context, code),
-        State::U2ws => heard_staying(State::U2ws, code),
-        State::U2sr => heard_staying(State::U2sr, code),
-        State::U2nc => heard_staying(State::U2nc, code),
+        State::U2 | State::U6 => heard_nowhere(code),
+        _ => heard_staying(state, code),
     }
 }

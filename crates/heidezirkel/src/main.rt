@@ -7,7 +7,7 @@ mod arguments;
 
 use arguments::join;
 use filing::arguments::{argument, argument_count};
-use filing::ending::tell_verdict;
+use filing::ending::{Failure, tell_verdict};
 use judge_words::run_judge;
 use log_words::show::run_show;
 use mend_words::run_mend;
@@ -16,47 +16,36 @@ use near_words::complain_unknown;
 use saying::complain;
 use settings_words::argument::run_settings;
 use text::hex::read_hex;
-use text::words::{part, same};
+use text::words::part;
 
-fn run_message(rt: &HostRuntime) -> u8 {
+fn run_message(rt: &HostRuntime) -> Result<(), Failure> {
     if argument_count(rt) < 3 {
         complain(b"heidezirkel message: the message is missing: give its octets in hexadecimal\n");
-        return 2;
+        return Err(Failure::NotRun);
     }
     let mut digits = io::large_buffer();
-    let joined = join(rt, &mut digits);
-    if !joined.good {
-        return 2;
-    }
+    let joined = join(rt, &mut digits)?;
     let mut octets = io::large_buffer();
-    let count = joined.count;
-    let spelt = read_hex(part(&digits, 0, count), true, &mut octets, 0);
-    let total = spelt.count;
+    // The arguments are digits, two an octet, and there is room for them all.
+    let total = read_hex(joined, true, &mut octets, 0).unwrap_or(0);
     tell_apart(part(&octets, 0, total))
 }
 
-fn run(rt: &HostRuntime, word: &[u8]) -> u8 {
-    if same(word, b"message") {
-        return run_message(rt);
+fn run(rt: &HostRuntime, word: &[u8]) -> Result<(), Failure> {
+    match word {
+        b"message" => run_message(rt),
+        b"judge" => run_judge(rt),
+        b"mend" => run_mend(rt),
+        b"show" => run_show(rt),
+        b"settings" => run_settings(rt),
+        _ => {
+            complain_unknown(word);
+            Err(Failure::NotRun)
+        }
     }
-    if same(word, b"judge") {
-        return run_judge(rt);
-    }
-    if same(word, b"mend") {
-        return run_mend(rt);
-    }
-    if same(word, b"show") {
-        return run_show(rt);
-    }
-    if same(word, b"settings") {
-        return run_settings(rt);
-    }
-    complain_unknown(word);
-    2
 }
 
 fn main(rt: HostRuntime) {
-    let mut text = io::buffer();
-    let count = argument(&rt, 1, &mut text);
-    tell_verdict(&rt, run(&rt, part(&text, 0, count)));
+    let mut word = io::buffer();
+    tell_verdict(&rt, run(&rt, argument(&rt, 1, &mut word)));
 }

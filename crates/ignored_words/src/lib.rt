@@ -7,6 +7,7 @@ mod reason;
 
 ghost use Rattle.std.specs.Prelude.{◌<◌};
 
+use filing::ending::Failure;
 use filing::log_room;
 use judge_walk::{End, walk};
 pub use listing::list;
@@ -16,38 +17,33 @@ use message::Own;
 use replay::own_of;
 use saying::{STDOUT_FILENO, tell, tell_count, tell_place};
 use settings_values::Settings;
-use settings_words::argument::settings_and_log;
+use settings_words::argument::{Ready, settings_and_log};
 use text::words::part;
 
 // The word `ignored`.
-pub fn run_ignored(rt: &HostRuntime) -> u8 {
+pub fn run_ignored(rt: &HostRuntime) -> Result<(), Failure> {
     let mut log = log_room();
-    let ready = settings_and_log(rt, b"ignored", &mut log);
-    if ready.verdict != 0 {
-        return ready.verdict;
-    }
-    let settings = ready.settings;
-    let count = ready.count;
-    tell_ignored(settings, part(&log, 0, count))
+    let ready = settings_and_log(rt, b"ignored", &mut log)?;
+    tell_ignored(ready.settings, ready.log)
 }
 
 // Lists the ignored messages of a log, and answers the verdict: 0 where the whole log is what the radio does.
-fn tell_ignored(settings: Settings, log: &[u8]) -> u8 {
+fn tell_ignored(settings: Settings, log: &[u8]) -> Result<(), Failure> {
     let identity = settings.identity;
     let count = settings.count;
     tell_walked(own_of(settings), part(&identity, 0, count), log)
 }
 
-fn tell_walked(own: Own, identity: &[u8], log: &[u8]) -> u8 {
+fn tell_walked(own: Own, identity: &[u8], log: &[u8]) -> Result<(), Failure> {
     let walked = walk(own, identity, log);
     let track = walked.track;
     let entries = track.entries;
-    let number = std::num::wrapping_add_usize(entries, 1);
+    let number = entries.wrapping_add(1);
     let end = walked.end;
     match end {
         End::Finished => {
             tell_listed(own, identity, log, entries);
-            0
+            Ok(())
         }
         End::TooLong => tell_unlisted(b"it has over 65,536 bytes (answer 10)"),
         End::OutOfRange => tell_unlisted(b"the settings are out of range (answer 4)"),
@@ -60,11 +56,11 @@ fn tell_walked(own: Own, identity: &[u8], log: &[u8]) -> u8 {
 }
 
 // A log that is refused before its first octet is read.
-fn tell_unlisted(why: &[u8]) -> u8 {
+fn tell_unlisted(why: &[u8]) -> Result<(), Failure> {
     tell(b"the log is refused: ");
     tell(why);
     tell(b", and nothing of it is listed; see heidezirkel judge\n");
-    1
+    Err(Failure::Refused)
 }
 
 // The list of the entries that are explained.
@@ -75,17 +71,23 @@ fn tell_listed(own: Own, identity: &[u8], log: &[u8], entries: usize) {
 }
 
 // The same of a log that is refused at the entry of this number, which is the one behind them, or at its version.
-fn tell_listed_to(own: Own, identity: &[u8], log: &[u8], entries: usize, number: usize) -> u8 {
+fn tell_listed_to(
+    own: Own,
+    identity: &[u8],
+    log: &[u8],
+    entries: usize,
+    number: usize,
+) -> Result<(), Failure> {
     tell_listed(own, identity, log, entries);
     tell(b"the log is refused at entry ");
     tell_place(number);
     tell(b", and nothing is listed from there on; see heidezirkel judge\n");
-    1
+    Err(Failure::Refused)
 }
 
 // How many messages were ignored for each reason. The first count is of the other entries.
 fn tell_counts(counts: &[usize; 7], entries: usize) {
-    let ignored = std::num::wrapping_sub_usize(entries, counts[0]);
+    let ignored = entries.wrapping_sub(counts[0]);
     if ignored == 0 {
         tell(b"no message was ignored in ");
         tell_count(entries, b" entry\n", b" entries\n");
@@ -97,10 +99,8 @@ fn tell_counts(counts: &[usize; 7], entries: usize) {
 }
 
 fn tell_each(counts: &[usize; 7]) {
-    let mut reason = 1;
-    while reason < 7 {
+    for reason in 1..7 {
         tell_counted(counts, reason);
-        reason += 1;
     }
 }
 

@@ -1,16 +1,16 @@
 // A log's entries from a cleared context on, each taken through its step once more: a line for each whose message is ignored, and how many are for each reason.
 use crate::reason::tell_particulars;
 use codes::protocol::Protocol;
-use context::{Context, state_number};
+use context::Context;
 use fields::{fault_number, octet_at};
-use log_entry::{Found, read_entry};
+use log_entry::read_entry;
 use log_words::entry::{tell_time, write_reason, write_state_name};
-use message::{Own, Reading};
+use message::{Own, Unread};
 use replay::{message_of, step_entry};
 use saying::describe::write_kind;
 use saying::{STDOUT_FILENO, tell, tell_count, tell_octet, tell_place};
-use septets::{Number, read_number};
-use version::{Known, Table, table_of};
+use septets::read_number;
+use version::{Table, table_of};
 
 // Behind an entry: its number, its time and the reason (0 where no message is ignored); the context, and the place of the next entry.
 #[derive(Clone, Copy)]
@@ -25,10 +25,10 @@ struct Passed {
 // Lists what is ignored in the first `entries` entries, and answers how many entries have each reason, 0 to 6.
 pub fn list(own: Own, identity: &[u8], log: &[u8], entries: usize) -> [usize; 7] {
     let mut counts = [0; 7];
-    let Number::Value(version, place) = read_number(log, 0) else {
+    let Some((version, place)) = read_number(log, 0) else {
         return counts;
     };
-    let Known::Of(table) = table_of(version) else {
+    let Some(table) = table_of(version) else {
         return counts;
     };
     let mut passed = Passed {
@@ -38,11 +38,9 @@ pub fn list(own: Own, identity: &[u8], log: &[u8], entries: usize) -> [usize; 7]
         context: Context::cleared(),
         place,
     };
-    let mut left = entries;
-    while 0 < left {
+    for _ in 0..entries {
         passed = pass_entry(table, own, identity, log, passed);
         count(&mut counts, passed.reason);
-        left -= 1;
     }
     counts
 }
@@ -50,13 +48,13 @@ pub fn list(own: Own, identity: &[u8], log: &[u8], entries: usize) -> [usize; 7]
 fn count(counts: &mut [usize; 7], reason: u8) {
     if reason < 7 {
         let at = reason as usize;
-        counts[at] = std::num::wrapping_add_usize(counts[at], 1);
+        counts[at] = counts[at].wrapping_add(1);
     }
 }
 
 // The next entry, and a line for it where its message is ignored. There is one: the walk, or the recorder, has passed it.
 fn pass_entry(table: Table, own: Own, identity: &[u8], log: &[u8], before: Passed) -> Passed {
-    let Found::Read(entry, place) = read_entry(table, log, before.place) else {
+    let Ok((entry, place)) = read_entry(table, log, before.place) else {
         return before;
     };
     let context = before.context;
@@ -65,8 +63,8 @@ fn pass_entry(table: Table, own: Own, identity: &[u8], log: &[u8], before: Passe
     let outcome = stepped.outcome;
     let after = stepped.context;
     let passed = Passed {
-        number: std::num::wrapping_add_usize(before.number, 1),
-        time: std::num::wrapping_add_u64(before.time, entry.delta as u64),
+        number: before.number.wrapping_add(1),
+        time: before.time.wrapping_add(entry.delta as u64),
         reason: outcome.reason,
         context: after,
         place,
@@ -92,11 +90,10 @@ fn tell_passed(
     if passed.reason == 0 {
         return;
     }
-    let state = context.state;
     tell(b"entry ");
     tell_place(passed.number);
     tell_time(passed.time);
-    write_state_name(STDOUT_FILENO, (state_number(state) % 256) as u8);
+    write_state_name(STDOUT_FILENO, context.state as u8);
     tell(b", ");
     tell_kind(protocol, octets);
     tell(b" ignored (");
@@ -129,12 +126,8 @@ fn tell_kind(protocol: Protocol, octets: &[u8]) {
 // The number of a message's fault, and 0 where it has none. No log holds a message that is too long.
 fn fault_of(protocol: Protocol, octets: &[u8]) -> u8 {
     match message::read(protocol, octets) {
-        Reading::Is {
-            flag: _,
-            value: _,
-            message: _,
-        } => 0,
-        Reading::Unreadable(fault) => fault_number(fault),
-        Reading::TooLong => 1,
+        Ok(_) => 0,
+        Err(Unread::Unreadable(fault)) => fault_number(fault),
+        Err(Unread::TooLong) => 1,
     }
 }

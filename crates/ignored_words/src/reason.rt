@@ -2,7 +2,7 @@
 use codes::protocol::{Protocol, discriminator};
 use context::{Context, expected_flag};
 use fields::octet_at;
-use message::{Identity, Message, Reading};
+use message::Message;
 use saying::{tell, tell_hex, tell_number};
 use text::words::part;
 
@@ -63,18 +63,13 @@ fn tell_flags(expected: bool) {
 
 // Only GET STATUS names an identity.
 fn tell_identities(protocol: Protocol, octets: &[u8], identity: &[u8]) {
-    let Reading::Is {
-        flag: _,
-        value: _,
-        message,
-    } = message::read(protocol, octets)
+    let Ok(read) = message::read(protocol, octets) else {
+        return;
+    };
+    let Message::GetStatus {
+        identity: Some(run),
+    } = read.message
     else {
-        return;
-    };
-    let Message::GetStatus { identity: named } = message else {
-        return;
-    };
-    let Identity::Present(run) = named else {
         return;
     };
     tell(b": it names ");

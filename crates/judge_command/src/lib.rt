@@ -7,29 +7,35 @@ use forms::take_words;
 use saying::{say, say_decimal};
 use step_command::settings_of;
 use text::output::Output;
-use text::words::{Words, finished, part};
+use text::words::{finished, part};
 use timer::Window;
 use verdict::{Invitation, Judged};
 
 // `judge CKSN CLASSMARK IDENTITY LOG`. The words before the log stand in a record where `step` has them.
 pub fn answer_judge(
     line: &[u8],
-    words: Words,
+    at: usize,
     octets: &mut [u8],
     buffer: &mut [u8],
     output: Output,
 ) -> Output {
     let mut record = [0u8; 36];
-    let told = take_words(line, words, b"...........8MI", &mut record, octets);
-    let log = octets_word(line, told, octets, 0);
-    let rest = log.words;
-    let size = log.count;
-    if !finished(line, rest) {
+    let Some(size) = take_log(line, at, &mut record, octets) else {
         return malformed(buffer, output);
-    }
+    };
     let settings = settings_of(&record);
     let judged = judged_by(&settings, part(octets, 0, size));
     say_judged(buffer, output, judged)
+}
+
+// How many octets the log has at the start of the lent ones, whose line it ends.
+fn take_log(line: &[u8], at: usize, record: &mut [u8; 36], octets: &mut [u8]) -> Option<usize> {
+    let told = take_words(line, at, b"...........8MI", record, octets)?;
+    let (size, end) = octets_word(line, told, octets, 0)?;
+    if !finished(line, end) {
+        return None;
+    }
+    Some(size)
 }
 
 fn judged_by(settings: &[u8; 21], log: &[u8]) -> Judged {

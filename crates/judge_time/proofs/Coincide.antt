@@ -2,9 +2,14 @@
 use Prim.Native.Nat.{ℕ}
 use mathlib.Core.Path.{◌≡◌}
 use Rattle.octets.proofs.Coincide.{coincide}
+use Rattle.timer.specs.declared.Timers.{Timers}
+use Rattle.timer.specs.Timers.{running_among}
 use Rattle.judge_time.specs.declared.Clock.{Clock}
 use Rattle.judge_time.specs.declared.Ticked.{Ticked}
 use Rattle.judge_time.specs.Clock.{tick_of}
 
 pub tick_coincides : (c : Clock) (before after delta event : ℕ) (a b : Ticked) → a ≡ tick_of c before after delta event → b ≡ tick_of c before after delta event → a ≡ b
 tick_coincides c before after delta event = coincide (tick_of c before after delta event)
+
+pub running_number_coincides : (t : Timers) (a b : ℕ) → a ≡ running_among t → b ≡ running_among t → a ≡ b
+running_number_coincides t a b = coincide (running_among t) a b

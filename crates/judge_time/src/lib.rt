@@ -2,9 +2,10 @@
 #![tactic(auto)]
 
 ghost use Rattle.std.specs.Prelude.{◌≡◌};
+ghost use Rattle.timer.specs.Timers.{running_among, expiry_of, number_of_any, length_of};
 ghost use Rattle.judge_time.specs.Clock.{astray, greatest_left, least_left, left_with, started_at, tick_of, untimely_at, while_running, window_left};
 
-use timer::{Timer, Window};
+use timer::{Timer, Timers, Window};
 
 // The time, when the timer that runs was started, and the joining timers and the invitation timers that explain the entries so far: any of the ones with any of
 // the others. In milliseconds.
@@ -38,7 +39,7 @@ fn is_untimely(timer: u8, age: u64, ends: bool) -> bool
 {
     let joining = timer::timer_number(Timer::ConnReq);
     let invitation = timer::timer_number(Timer::Pres);
-    let length = timer::timer_length(0, 0, timer) as u64;
+    let length = timer_length(0, 0, timer) as u64;
     let wrong = (ends & (age != length)) | (length < age);
     (timer != joining) & ((timer != invitation) & wrong)
 }
@@ -156,6 +157,45 @@ pub fn tick(clock: Clock, before: u8, after: u8, delta: u32, event: u8) -> Ticke
         });
     }
     let age = now - clock.started;
-    let ends = timer::expired_timer(event as u32) == before;
+    let ends = expired_number(event as u32) == before;
     while_running(joining, invitation, before, age, ends, now, started)
+}
+
+// The number of the timer that runs, 0 for none. A clock is told timers by their numbers: told of them by what they are, a walk takes some three per cent more
+// instructions.
+pub fn running_number(timers: Timers) -> u8
+    ensures { result ≡ running_among timers }
+{
+    number_of(timer::running_timer(timers))
+}
+
+// The number of the timer whose expiry an event is, 0 where it is none.
+fn expired_number(event: u32) -> u8
+    ensures { result ≡ expiry_of event }
+{
+    number_of(timer::expired_timer(event))
+}
+
+// The number of a timer, 0 for none.
+fn number_of(timer: Option<Timer>) -> u8
+    ensures { result ≡ number_of_any timer }
+{
+    match timer {
+        None => 0,
+        Some(timer) => timer::timer_number(timer),
+    }
+}
+
+// The length of the timer of a number, in milliseconds, where the joining timer is set to `joining` and the invitation timer to `invitation`; 0 for no timer.
+fn timer_length(joining: u32, invitation: u32, timer: u8) -> u32
+    ensures { result ≡ length_of joining invitation timer }
+{
+    match timer {
+        1 => Timers::MM_EST,
+        2 => Timers::TERM,
+        3 => joining,
+        4 => Timers::NO_CHANNEL,
+        5 => invitation,
+        _ => 0,
+    }
 }

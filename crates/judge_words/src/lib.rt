@@ -7,6 +7,7 @@ mod refusal;
 
 use ending::tell_ending;
 use filing::arguments::{has_option, tell_argument};
+use filing::ending::Failure;
 use filing::log_room;
 use judge::{Examined, examine};
 use log_words::entry::tell_long;
@@ -16,24 +17,19 @@ use refusal::tell_refusal;
 use replay::own_of;
 use saying::{tell, tell_count, tell_place};
 use settings_values::Settings;
-use settings_words::argument::settings_and_log_behind;
+use settings_words::argument::{Ready, settings_and_log_behind};
 use text::words::part;
 use timer::Window;
 use verdict::{Invitation, Judged};
 
 // The word `judge`.
-pub fn run_judge(rt: &HostRuntime) -> u8 {
+pub fn run_judge(rt: &HostRuntime) -> Result<(), Failure> {
     let strict = has_option(rt, 2, b"--settings-timers");
     let mut log = log_room();
-    let ready = settings_and_log_behind(rt, b"judge", options(strict), &mut log);
-    if ready.verdict != 0 {
-        return ready.verdict;
-    }
-    let settings = ready.settings;
-    let count = ready.count;
-    tell_argument(rt, std::num::wrapping_add_usize(options(strict), 3));
+    let ready = settings_and_log_behind(rt, b"judge", options(strict), &mut log)?;
+    tell_argument(rt, options(strict).wrapping_add(3));
     tell(b": ");
-    tell_judged(strict, settings, part(&log, 0, count))
+    tell_judged(strict, ready.settings, ready.log)
 }
 
 // How many options there are.
@@ -45,11 +41,11 @@ fn options(strict: bool) -> usize {
 }
 
 // Judges a log by the settings of a radio, and answers the verdict. A strict one wants the timers of the settings among those that explain the log.
-pub fn tell_judged(strict: bool, settings: Settings, log: &[u8]) -> u8 {
+pub fn tell_judged(strict: bool, settings: Settings, log: &[u8]) -> Result<(), Failure> {
     let examined = examine_by(settings, log);
-    let verdict = tell_examined(strict, settings, log, examined);
+    let ended = tell_examined(strict, settings, log, examined);
     tell_version(log);
-    verdict
+    ended
 }
 
 fn examine_by(settings: Settings, log: &[u8]) -> Examined {
@@ -58,7 +54,12 @@ fn examine_by(settings: Settings, log: &[u8]) -> Examined {
     examine(own_of(settings), part(&identity, 0, count), log)
 }
 
-fn tell_examined(strict: bool, settings: Settings, log: &[u8], examined: Examined) -> u8 {
+fn tell_examined(
+    strict: bool,
+    settings: Settings,
+    log: &[u8],
+    examined: Examined,
+) -> Result<(), Failure> {
     let identity = settings.identity;
     let count = settings.count;
     let own = own_of(settings);
@@ -79,7 +80,7 @@ fn tell_verdict_on(
     identity: &[u8],
     log: &[u8],
     examined: Examined,
-) -> u8 {
+) -> Result<(), Failure> {
     let judged = examined.judged;
     let walked = examined.walked;
     match judged {
@@ -87,48 +88,48 @@ fn tell_verdict_on(
             tell_accepted(entries, joining, invitation);
             let first = tell_joining(settings.joining as u64, joining);
             let second = tell_invitation(settings.invitation as u64, invitation);
-            let verdict = tell_strict(strict, first & second);
+            let ended = tell_strict(strict, first & second);
             let track = walked.track;
             tell_ending(track.context);
-            verdict
+            ended
         }
         Judged::TooLong => {
             tell(b"refused (answer 10): the log has over 65,536 bytes; judge a shorter one\n");
-            1
+            Err(Failure::Refused)
         }
         Judged::OutOfRange => {
             tell(b"refused (answer 4): the settings are out of range\n");
-            1
+            Err(Failure::Refused)
         }
         Judged::Unreadable(entry) => {
             tell(b"refused (answer 8): entry ");
             tell_place(entry);
             tell(b" can't be read\n");
             tell_refusal(own, identity, log, walked);
-            1
+            Err(Failure::Refused)
         }
         Judged::Unexplained(entry) => {
             tell(b"refused (answer 9): up to entry ");
             tell_place(entry);
             tell(b" no timer explains the log\n");
             tell_refusal(own, identity, log, walked);
-            1
+            Err(Failure::Refused)
         }
     }
 }
 
 // The verdict on a log that is accepted, by whether the timers of the settings are among those that explain it.
-fn tell_strict(strict: bool, among: bool) -> u8 {
+fn tell_strict(strict: bool, among: bool) -> Result<(), Failure> {
     if among {
-        return 0;
+        return Ok(());
     }
     if strict {
         tell(
             b"so it is refused by --settings-timers: the radio does not run the timers of its settings\n",
         );
-        return 1;
+        return Err(Failure::Refused);
     }
-    0
+    Ok(())
 }
 
 fn tell_accepted(entries: usize, joining: Window, invitation: Invitation) {

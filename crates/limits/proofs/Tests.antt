@@ -9,8 +9,7 @@ use lib.Dec.{leb}
 use borrow.Author.Tests.{le-leb, lt-leb, leb-true, ltb-true}
 use Rattle.octets.proofs.Choice.{never}
 use Rattle.octets.specs.declared.Run.{Run}
-use Rattle.message.specs.declared.Half.{Half}
-use Rattle.message.specs.declared.Half.TheVariants.{Absent, Present}
+use Rattle.std.specs.Prelude.{Option, Some, None}
 use Rattle.message.specs.Content.{run_octets, lies}
 use Rattle.octets.proofs.Stores.{part_length}
 use Rattle.message.specs.Tables.{format_tv, octets_of}
@@ -62,21 +61,21 @@ module _ (s : List ℕ) (run : Run) (least most : ℕ) where
       }
 
 -- An optional half octet takes at most one octet, and is below 16 where it fits.
-pub half_count_lem : (identifier : ℕ) (half : Half) → length (octets_of (format_tv identifier half)) ≡ half_count half
-half_count_lem identifier Absent = refl
-half_count_lem identifier (Present value) = refl
+pub half_count_lem : (identifier : ℕ) (half : Option ℕ) → length (octets_of (format_tv identifier half)) ≡ half_count half
+half_count_lem identifier None = refl
+half_count_lem identifier (Some value) = refl
 
-pub half_small : (half : Half) → half_count half ≤ 1
-half_small Absent = omega arith
-half_small (Present value) = omega arith
+pub half_small : (half : Option ℕ) → half_count half ≤ 1
+half_small None = omega arith
+half_small (Some value) = omega arith
 
-pub half_room : (half : Half) (value at room : ℕ) → half ≡ Present value → at + half_count half ≤ room → at < room
+pub half_room : (half : Option ℕ) (value at room : ℕ) → half ≡ Some value → at + half_count half ≤ room → at < room
 half_room half value at room e h = let k : half_count half ≡ 1 = ap half_count e in omega arith
 
-pub half_below : (half : Half) (value : ℕ) → half ≡ Present value → half_fits half ≡ true → value < 16
+pub half_below : (half : Option ℕ) (value : ℕ) → half ≡ Some value → half_fits half ≡ true → value < 16
 half_below half value e g = ltb-true value 16 (sym (ap half_fits e) ∙ g)
 
-module _ (s : List ℕ) (cause : Run) (state attributes : Half) where
+module _ (s : List ℕ) (cause : Run) (state attributes : Option ℕ) where
   pub status-run : run_fits s cause 1 247 ≡ false → false ≡ status_fits s cause state attributes
   unfolding status_fits
   status-run r = simp r

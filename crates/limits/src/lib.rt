@@ -5,7 +5,6 @@ ghost use Rattle.std.specs.Prelude.{◌≡◌};
 ghost use Rattle.limits.specs.Limits.{run_fits, reject_fits, half_fits, half_count, status_fits};
 
 use codes::protocol::Protocol;
-use message::Half;
 use octets::Run;
 
 // Whether a run of `least` to `most` octets lies within `source`.
@@ -54,27 +53,24 @@ pub fn reject_fits(protocol: Protocol, source: &[u8], cause: Run) -> bool
 }
 
 // Whether a half octet holds the value.
-fn half_fits(half: Half) -> bool
+fn half_fits(half: Option<u8>) -> bool
     ensures { result ≡ half_fits half }
 {
-    match half {
-        Half::Absent => true,
-        Half::Present(value) => value < 16,
-    }
+    half.is_none_or(|value| value < 16)
 }
 
 // How many octets an optional half octet takes.
-pub fn half_count(half: Half) -> usize
+pub fn half_count(half: Option<u8>) -> usize
     ensures { result ≡ half_count half }
 {
     match half {
-        Half::Absent => 0,
-        Half::Present(_) => 1,
+        None => 0,
+        Some(_) => 1,
     }
 }
 
 // Whether a STATUS fits: its fields, and at most 251 octets in all.
-pub fn status_fits(source: &[u8], cause: Run, state: Half, attributes: Half) -> bool
+pub fn status_fits(source: &[u8], cause: Run, state: Option<u8>, attributes: Option<u8>) -> bool
     ensures { result ≡ status_fits source.now cause state attributes }
 {
     if !cause_fits(source, cause) {

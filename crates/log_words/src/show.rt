@@ -1,18 +1,14 @@
 // The word `show`.
 use crate::tell_log;
 use filing::arguments::has_arguments;
+use filing::ending::Failure;
 use filing::{log_room, read_argument};
-use text::words::part;
 
-pub fn run_show(rt: &HostRuntime) -> u8 {
+pub fn run_show(rt: &HostRuntime) -> Result<(), Failure> {
     if !has_arguments(rt, 1, b"show", b"one argument, a log") {
-        return 2;
+        return Err(Failure::NotRun);
     }
     let mut log = log_room();
-    let filed = read_argument(rt, b"show", 2, &mut log);
-    if !filed.good {
-        return 2;
-    }
-    let count = filed.count;
-    tell_log(part(&log, 0, count))
+    let filed = read_argument(rt, b"show", 2, &mut log)?;
+    tell_log(filed.octets)
 }

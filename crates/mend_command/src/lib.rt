@@ -1,8 +1,6 @@
 // The command `mend` of the probe: settings, the length of a copy buffer and a log's bytes; what was kept and dropped, what ended it, and the copy.
 #![tactic(auto)]
 
-ghost use Rattle.std.specs.Prelude.{◌≤◌};
-
 use fields::malformed;
 use fields::words::{number_word, octets_word};
 use forms::take_words;
@@ -11,33 +9,44 @@ use mend::{Ending, Mended, Report};
 use saying::{say, say_hex};
 use step_command::settings_of;
 use text::output::Output;
-use text::words::{Words, finished, part};
+use text::words::{finished, part};
 
 // `mend CKSN CLASSMARK IDENTITY COPYLEN LOG`. The words before the copy's length stand in a record where `step` has them.
 pub fn answer_mend(
     line: &[u8],
-    words: Words,
+    at: usize,
     octets: &mut [u8],
     buffer: &mut [u8],
     output: Output,
 ) -> Output {
     let mut record = [0u8; 36];
-    let told = take_words(line, words, b"...........8MI", &mut record, octets);
-    let length = number_word(line, told, 4294967295);
-    let log = octets_word(line, length.words, octets, 0);
-    let rest = log.words;
-    let size = log.count;
-    if !finished(line, rest) {
+    let Some((length, size)) = take_lengths(line, at, &mut record, octets) else {
         return malformed(buffer, output);
-    }
+    };
     let settings = settings_of(&record);
     say_copy(
         &settings,
-        length.value as usize,
+        length as usize,
         part(octets, 0, size),
         buffer,
         output,
     )
+}
+
+// The copy's length, and how many octets the log has at the start of the lent ones, whose line it ends.
+fn take_lengths(
+    line: &[u8],
+    at: usize,
+    record: &mut [u8; 36],
+    octets: &mut [u8],
+) -> Option<(u64, usize)> {
+    let told = take_words(line, at, b"...........8MI", record, octets)?;
+    let (length, log) = number_word(line, told, 4294967295)?;
+    let (size, end) = octets_word(line, log, octets, 0)?;
+    if !finished(line, end) {
+        return None;
+    }
+    Some((length, size))
 }
 
 // Mends the log, and says what that comes to.
@@ -53,23 +62,14 @@ fn say_copy(
     say_mended(buffer, output, mended, &copy)
 }
 
+// Of a copy buffer no more octets matter than the longest log has.
 fn mended_by(settings: &[u8; 21], length: usize, log: &[u8], copy: &mut [u8]) -> Mended {
     let own = settings_octets::own_of(settings);
     let run = settings_octets::identity_run(settings);
     let start = run.start;
     let count = run.count;
-    let room = up_to(length, copy.len());
+    let room = length.min(copy.len());
     mend::mend(own, part(settings, start, count), log, &mut copy[0..room])
-}
-
-// Of a copy buffer no more octets matter than the longest log has.
-fn up_to(length: usize, most: usize) -> usize
-    ensures { result ≤ most }
-{
-    if length < most {
-        return length;
-    }
-    most
 }
 
 fn say_mended(buffer: &mut [u8], output: Output, mended: Mended, copy: &[u8]) -> Output {

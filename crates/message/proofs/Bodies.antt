@@ -1,6 +1,6 @@
 -- Laws of the reader's definitions, in the terms of its code.
 use Prim.Native.Nat.{ℕ, ◌+◌, ◌/◌, ◌%◌, ◌≤◌, ◌<◌}
-use mathlib.Core.Path.{◌≡◌, sym, ap, subst, ◌∙◌}
+use mathlib.Core.Path.{◌≡◌, ap, subst, ◌∙◌}
 use mathlib.Core.List.{List}
 use native.Mathlib.Omega.{arith}
 use lib.ListN.{length, get_or}
@@ -9,33 +9,29 @@ use borrow.Author.Tests.{le-leb, lt-leb, le-ltb, eq-eqb}
 use Rattle.codes.specs.declared.protocol.Protocol.{Protocol}
 use Rattle.codes.specs.Protocol.{discriminator}
 use Rattle.octets.specs.declared.Run.{Run}
-use Rattle.element.specs.declared.Found.{Found}
-use Rattle.element.specs.declared.Counted.{Counted}
-use Rattle.element.specs.declared.Counted.TheVariants.{Octets}
+use Rattle.std.specs.Prelude.{Option, Result, Ok, Err, IsErrAnd, MatchResult}
+use Rattle.element.specs.declared.Miscount.{Miscount}
+use Rattle.message.specs.declared.Fault.{Fault}
 use Rattle.element.specs.Elements.{element_from}
 use Rattle.element.specs.Counted.{counted_at}
 use Rattle.element.proofs.Elements.{within_says}
 use Rattle.element.proofs.Counting.{Lies, counted-told, Told}
 use Rattle.octets.specs.declared.Reference.{Reference}
 use Rattle.message.specs.declared.Classmark.{Classmark}
-use Rattle.message.specs.declared.Half.{Half}
-use Rattle.message.specs.declared.Identity.{Identity}
 use Rattle.message.specs.declared.Message.{Message}
-use Rattle.message.specs.declared.Message.TheVariants.{GetStatus, ImmediateSetup, Status}
+use Rattle.message.specs.declared.Message.TheVariants.{ImmediateSetup, Status}
 use Rattle.message.specs.declared.Fault.TheVariants.{CutShort}
-use Rattle.message.specs.declared.Body.{Body}
-use Rattle.message.specs.declared.Body.TheVariants.{Wrong}
 use Rattle.message.specs.Reading.{
   reference_at,
   classmark_at,
   behind,
   unless_known,
   whole_of,
+  miscounted,
+  counted_of,
   on_counted,
   immediate_reference_of,
   immediate_identity_of,
-  identity_found,
-  get_status_of,
   half_at,
   status_behind,
   status_of,
@@ -45,21 +41,57 @@ use Rattle.message.specs.Reading.{
 }
 
 -- A mandatory part that is cut short, and one that is not.
-pub whole-cut : (s : List ℕ) (end : ℕ) (message : Message) → length s < end → Wrong CutShort ≡ whole_of s end message
+pub whole-cut : (s : List ℕ) (end : ℕ) (message : Message) → length s < end → Err CutShort ≡ whole_of s end message
 unfolding whole_of
 whole-cut s end message h = simp (lt-leb _ _ h)
 
-pub whole-there : (s : List ℕ) (end : ℕ) (message : Message) (found : Found) → end ≤ length s → found ≡ element_from s end 0 15
+pub whole-there : (s : List ℕ) (end : ℕ) (message : Message) (found : Option (ℕ × ℕ)) → end ≤ length s → found ≡ element_from s end 0 15
     → unless_known message found ≡ whole_of s end message
 unfolding whole_of
 whole-there s end message found h e = simp (le-leb _ _ h) (ap (unless_known message) e)
 
--- What was counted lies within the octets.
-pub counted-lies : (s : List ℕ) (at low high : ℕ) (run : Run) → Octets run ≡ counted_at s at low high → Lies s at low high run
-counted-lies s at low high run e = subst (Told s at low high) (sym e) (counted-told s at low high)
+-- The exit of a `?` passes the error on.
+pub passed : {T E : Type 0} (r : Result T E) (e : E) → IsErrAnd r (λ y. y ≡ e) → r ≡ Err e
+passed (Ok x) e p = elim p [ ]
+passed (Err y) e p = ap Err p
+
+-- What is counted, with the fault in the place of the miscount.
+pub mapped : (at : ℕ) (c : Result Run Miscount) (r : Result Run Fault)
+    → MatchResult c (λ run. r ≡ Ok run) (λ miscount. IsErrAnd r (λ fault. fault ≡ miscounted at miscount)) → r ≡ on_counted at Ok c
+mapped at (Ok run) r h = h
+mapped at (Err miscount) r h = passed r (miscounted at miscount) h
+
+module _ (s : List ℕ) (at low high : ℕ) where
+  -- What was counted lies within the octets.
+  pub counted-lies : (run : Run) → Ok run ≡ counted_of s at low high → Lies s at low high run
+  unfolding counted_of
+  counted-lies run e = go (counted_at s at low high) (counted-told s at low high) e
+    where
+      go : (c : Result Run Miscount) → Told s at low high c → Ok run ≡ on_counted at Ok c → Lies s at low high run
+      go (Ok r) t e = let f : r ≡ run = cc in subst (Lies s at low high) f t
+      go (Err miscount) t e = cc
+
+  -- The run that a length octet counts decides what stands behind it, and a wrong count what is wrong.
+  pub counted-run : (go : Run → Result Message Fault) (run : Run) → Ok run ≡ counted_of s at low high
+      → go run ≡ on_counted at go (counted_at s at low high)
+  unfolding counted_of
+  counted-run go run e = on (counted_at s at low high) e
+    where
+      on : (c : Result Run Miscount) → Ok run ≡ on_counted at Ok c → go run ≡ on_counted at go c
+      on (Ok r) e = let f : run ≡ r = cc in ap go f
+      on (Err miscount) e = cc
+
+  pub counted-fault : (go : Run → Result Message Fault) (fault : Fault) → Err fault ≡ counted_of s at low high
+      → Err fault ≡ on_counted at go (counted_at s at low high)
+  unfolding counted_of
+  counted-fault go fault e = on (counted_at s at low high) e
+    where
+      on : (c : Result Run Miscount) → Err fault ≡ on_counted at Ok c → Err fault ≡ on_counted at go c
+      on (Ok r) e = cc
+      on (Err miscount) e = cc
 
 -- Where the classmark's length octet counts three, they are there.
-pub classmark-there : (s : List ℕ) (run : Run) → Octets run ≡ counted_at s 3 3 3 → 7 ≤ length s
+pub classmark-there : (s : List ℕ) (run : Run) → Ok run ≡ counted_of s 3 3 3 → 7 ≤ length s
 classmark-there s run e =
     let l : Lies s 3 3 3 run = counted-lies s 3 3 3 run e in
     let a : run.start ≡ 3 + 1 = l.start in
@@ -67,25 +99,12 @@ classmark-there s run e =
     let c : run.start + run.count ≤ length s = l.fits in
     omega arith
 
--- The run that a length octet counts decides what stands behind it.
-pub counted-run : (s : List ℕ) (at low high : ℕ) (go : Run → Body) (c : Counted) → c ≡ counted_at s at low high
-    → on_counted at go c ≡ on_counted at go (counted_at s at low high)
-counted-run s at low high go c e = ap (on_counted at go) e
-
 module _ (s : List ℕ) where
-  pub get_status_with : (found : Found) (identity : Identity) (r : Body) → found ≡ element_from s 2 0x17 0x17 → identity ≡ identity_found s found
-      → r ≡ whole_of s 2 (GetStatus identity) → r ≡ get_status_of s
-  unfolding get_status_of
-  get_status_with found identity r e i w =
-      w
-      ∙ ap (λ (y : Identity). whole_of s 2 (GetStatus y)) i
-      ∙ ap (λ (y : Found). whole_of s 2 (GetStatus (identity_found s y))) e
-
-  pub immediate-cut : (run : Run) → Octets run ≡ counted_at s 7 1 8 → length s < behind run + 4 → Wrong CutShort ≡ immediate_identity_of s
+  pub immediate-cut : (run : Run) → Ok run ≡ counted_of s 7 1 8 → length s < behind run + 4 → Err CutShort ≡ immediate_identity_of s
   unfolding immediate_identity_of
-  immediate-cut run e h = whole-cut s (behind run + 4) _ h ∙ counted-run s 7 1 8 (immediate_reference_of s) (Octets run) e
+  immediate-cut run e h = whole-cut s (behind run + 4) _ h ∙ counted-run s 7 1 8 (immediate_reference_of s) run e
 
-  pub immediate-done : (run : Run) → Octets run ≡ counted_at s 7 1 8 → (c : Classmark) (x : Reference) (r : Body)
+  pub immediate-done : (run : Run) → Ok run ≡ counted_of s 7 1 8 → (c : Classmark) (x : Reference) (r : Result Message Fault)
       → c ≡ classmark_at s 4 → x ≡ reference_at s (behind run)
       → r ≡ whole_of s (behind run + 4) (ImmediateSetup (get_or s 2 0 / 16 % 8) c run x) → r ≡ immediate_identity_of s
   unfolding immediate_identity_of
@@ -93,19 +112,19 @@ module _ (s : List ℕ) where
       w
       ∙ ap (λ (y : Classmark). whole_of s (behind run + 4) (ImmediateSetup (get_or s 2 0 / 16 % 8) y run x)) p
       ∙ ap (λ (y : Reference). whole_of s (behind run + 4) (ImmediateSetup (get_or s 2 0 / 16 % 8) (classmark_at s 4) run y)) q
-      ∙ counted-run s 7 1 8 (immediate_reference_of s) (Octets run) e
+      ∙ counted-run s 7 1 8 (immediate_reference_of s) run e
 
-  pub status-done : (run : Run) → Octets run ≡ counted_at s 2 1 247 → (x y : Half) (r : Body) → x ≡ half_at s (behind run) 0xA0
+  pub status-done : (run : Run) → Ok run ≡ counted_of s 2 1 247 → (x y : Option ℕ) (r : Result Message Fault) → x ≡ half_at s (behind run) 0xA0
       → y ≡ half_at s (behind run) 0xB0 → r ≡ whole_of s (behind run) (Status run x y) → r ≡ status_of s
   unfolding status_of
   status-done run e x y r p q w =
       w
-      ∙ ap (λ (z : Half). whole_of s (behind run) (Status run z y)) p
-      ∙ ap (λ (z : Half). whole_of s (behind run) (Status run (half_at s (behind run) 0xA0) z)) q
-      ∙ counted-run s 2 1 247 (status_behind s) (Octets run) e
+      ∙ ap (λ (z : Option ℕ). whole_of s (behind run) (Status run z y)) p
+      ∙ ap (λ (z : Option ℕ). whole_of s (behind run) (Status run (half_at s (behind run) 0xA0) z)) q
+      ∙ counted-run s 2 1 247 (status_behind s) run e
 
 -- Behind a good first octet and type the body decides.
-pub head_good : (protocol : Protocol) (s : List ℕ) (b : Body) → length s ≤ 251 → 2 ≤ length s → get_or s 0 0 % 16 ≡ discriminator protocol → get_or s 1 0 < 128
+pub head_good : (protocol : Protocol) (s : List ℕ) (b : Result Message Fault) → length s ≤ 251 → 2 ≤ length s → get_or s 0 0 % 16 ≡ discriminator protocol → get_or s 1 0 < 128
     → b ≡ body_of protocol s (get_or s 1 0 % 64) → read_as (leb 128 (get_or s 0 0)) (get_or s 0 0 / 16 % 8) b ≡ read_message protocol s
 unfolding read_message
 head_good protocol s b h k d t e =

@@ -13,10 +13,11 @@ use Rattle.codes.specs.declared.protocol.Protocol.{Protocol}
 use Rattle.codes.specs.declared.protocol.Protocol.TheVariants.{Broadcast, Group}
 use Rattle.codes.specs.Protocol.{discriminator}
 use Rattle.octets.specs.declared.Run.{Run}
-use Rattle.element.specs.declared.Found.{Found}
-use Rattle.element.specs.declared.Found.TheVariants.{At, Nothing}
-use Rattle.element.specs.declared.Counted.{Counted}
-use Rattle.element.specs.declared.Counted.TheVariants.{Octets, CutShort as CountedShort, WrongLength as CountedWrong}
+use Rattle.std.specs.Prelude.{Option, Some, None, Result, Ok, Err}
+use Rattle.element.specs.declared.Miscount.{Miscount}
+use Rattle.message.specs.declared.Fault.{Fault}
+use Rattle.message.specs.declared.Reading.{Reading}
+use Rattle.message.specs.declared.Unread.{Unread}
 use Rattle.element.specs.Elements.{element_from}
 use Rattle.element.specs.Counted.{counted_at}
 use Rattle.element.proofs.Counting.{Lies, counted-told, Told as Counts}
@@ -33,10 +34,6 @@ use Rattle.message.specs.declared.Message.TheVariants.{
   TerminationRequest,
 }
 use Rattle.message.specs.declared.Fault.TheVariants.{UnknownType}
-use Rattle.message.specs.declared.Body.{Body}
-use Rattle.message.specs.declared.Body.TheVariants.{Is, Wrong}
-use Rattle.message.specs.declared.Reading.{Reading}
-use Rattle.message.specs.declared.Reading.TheVariants.{Is as Reads, Unreadable, TooLong}
 use Rattle.message.specs.Reading.{
   place,
   octet,
@@ -89,18 +86,17 @@ module _ (protocol : Protocol) (s : List ℕ) (P : Message → Type 0) where
     pub termination_reject : (cause : Run) → RejectLies protocol s cause → P (TerminationReject cause)
     pub termination_request : P (TerminationRequest (reference_at s (place 3)))
 
-  abbrev InBody : Body → Type 0
-  InBody (Is message) = P message
-  InBody (Wrong fault) = Unit {0}
+  abbrev InBody : Result Message Fault → Type 0
+  InBody (Ok message) = P message
+  InBody (Err fault) = Unit {0}
 
-  abbrev pub InReading : Reading → Type 0
-  InReading (Reads flag value message) = P message
-  InReading (Unreadable fault) = Unit {0}
-  InReading TooLong = Unit {0}
+  abbrev pub InReading : Result Reading Unread → Type 0
+  InReading (Ok read) = P read.message
+  InReading (Err unread) = Unit {0}
 
-  known : (m : Message) (found : Found) → P m → InBody (unless_known m found)
-  known m Nothing p = p
-  known m (At at identifier) p = tt
+  known : (m : Message) (found : Option (ℕ × ℕ)) → P m → InBody (unless_known m found)
+  known m None p = p
+  known m (Some (at, identifier)) p = tt
 
   whole-there : (end : ℕ) (m : Message) → (end ≤ length s → P m) → InBody (whole_of s end m)
   unfolding whole_of
@@ -109,13 +105,12 @@ module _ (protocol : Protocol) (s : List ℕ) (P : Message → Type 0) where
   whole : (end : ℕ) (m : Message) → P m → InBody (whole_of s end m)
   whole end m p = whole-there end m (λ h. p)
 
-  on-counted : (at low high : ℕ) (go : Run → Body) (c : Counted) → Counts s at low high c
+  on-counted : (at low high : ℕ) (go : Run → Result Message Fault) (c : Result Run Miscount) → Counts s at low high c
       → ((run : Run) → Lies s at low high run → InBody (go run)) → InBody (on_counted at go c)
-  on-counted at low high go (Octets run) t p = p run t
-  on-counted at low high go CountedShort t p = tt
-  on-counted at low high go CountedWrong t p = tt
+  on-counted at low high go (Ok run) t p = p run t
+  on-counted at low high go (Err miscount) t p = tt
 
-  counted : (at low high : ℕ) (go : Run → Body) → ((run : Run) → Lies s at low high run → InBody (go run))
+  counted : (at low high : ℕ) (go : Run → Result Message Fault) → ((run : Run) → Lies s at low high run → InBody (go run))
       → InBody (on_counted at go (counted_at s at low high))
   counted at low high go p = on-counted at low high go (counted_at s at low high) (counted-told s at low high) p
 
@@ -156,9 +151,9 @@ module _ (protocol : Protocol) (s : List ℕ) (P : Message → Type 0) where
         ),
       )
 
-  read_as_lem : (flag : Bool) (value : ℕ) (b : Body) → InBody b → InReading (read_as flag value b)
-  read_as_lem flag value (Is message) p = p
-  read_as_lem flag value (Wrong fault) p = tt
+  read_as_lem : (flag : Bool) (value : ℕ) (b : Result Message Fault) → InBody b → InReading (read_as flag value b)
+  read_as_lem flag value (Ok message) p = p
+  read_as_lem flag value (Err fault) p = tt
 
   pub read-each : (length s ≤ 251 → Each) → InReading (read_message protocol s)
   unfolding read_message body_of
@@ -167,9 +162,9 @@ module _ (protocol : Protocol) (s : List ℕ) (P : Message → Type 0) where
       at_cond InReading (ltb (length s) 2) _ _ (λ e. tt) λ e.
       at_cond InReading (eqb (octet 1 s % 16) (discriminator protocol)) _ _
       (λ e. at_cond InReading (leb 128 (octet 2 s)) _ _ (λ e. tt)
-      (λ e. read_as_lem _ _ (body_of protocol s (octet 2 s % 64)) (at_rows InBody (octet 2 s % 64) (Wrong UnknownType) (kinds protocol s) (bodies (octet 2 s % 64) (each (ltb-false _ _ short))) (λ a. tt))))
+      (λ e. read_as_lem _ _ (body_of protocol s (octet 2 s % 64)) (at_rows InBody (octet 2 s % 64) (Err UnknownType) (kinds protocol s) (bodies (octet 2 s % 64) (each (ltb-false _ _ short))) (λ a. tt))))
       (λ e. tt)
 
   -- The same of a message that reading is known to give.
-  pub of_read : (length s ≤ 251 → Each) → (flag : Bool) (value : ℕ) (m : Message) → read_message protocol s ≡ Reads flag value m → P m
-  of_read each flag value m e = subst InReading e (read-each each)
+  pub of_read : (length s ≤ 251 → Each) → (read : Reading) → read_message protocol s ≡ Ok read → P read.message
+  of_read each read e = subst InReading e (read-each each)

@@ -2,23 +2,21 @@
 use Prim.Native.Nat.{ℕ, ◌+◌}
 use mathlib.Core.Path.{◌≡◌, refl, ap, ◌∙◌}
 use mathlib.Core.List.{List}
-use mathlib.Core.Bool.{Bool, true}
+use mathlib.Core.Bool.{true}
 use borrow.Author.Tests.{le-leb}
 use Rattle.codes.specs.declared.protocol.Protocol.{Protocol}
 use Rattle.codes.specs.declared.protocol.Protocol.TheVariants.{Broadcast, Group}
 use Rattle.octets.specs.declared.Run.{Run}
-use Rattle.element.specs.declared.Found.{Found}
-use Rattle.element.specs.declared.Found.TheVariants.{At, Nothing}
-use Rattle.element.specs.declared.Counted.{Counted}
-use Rattle.element.specs.declared.Counted.TheVariants.{Octets, CutShort, WrongLength}
+use Rattle.std.specs.Prelude.{Option, Some, None, Result, Ok, Err}
+use Rattle.std.specs.Result.{result_ok}
+use Rattle.element.specs.declared.Miscount.{Miscount}
 use Rattle.element.specs.Elements.{element_from}
 use Rattle.element.specs.Counted.{counted_at}
 use Rattle.element.proofs.Counting.{Lies, counted-told, Told as Counts}
-use Rattle.message.specs.declared.Message.{Message}
+use Rattle.message.specs.declared.Reading.{Reading}
 use Rattle.message.specs.declared.Message.TheVariants.{GetStatus}
-use Rattle.message.specs.declared.Reading.TheVariants.{Is as Reads}
 use Rattle.message.specs.Content.{lies, runs_lie}
-use Rattle.message.specs.Reading.{if_counted, identity_behind, identity_found, read_message}
+use Rattle.message.specs.Reading.{identity_behind, identity_found, read_message}
 use Rattle.message.proofs.Each.{RejectLies, Each, of_read}
 
 module _ (s : List ℕ) where
@@ -27,15 +25,14 @@ module _ (s : List ℕ) where
   unfolding lies
   run_lies at low high run l = le-leb _ _ l.fits
 
-  if_counted_lem : (at : ℕ) (c : Counted) → Counts s at 1 8 c → runs_lie s (GetStatus (if_counted c)) ≡ true
-  if_counted_lem at (Octets run) t = run_lies at 1 8 run t
-  if_counted_lem at CutShort t = refl
-  if_counted_lem at WrongLength t = refl
+  ok-lies : (at : ℕ) (c : Result Run Miscount) → Counts s at 1 8 c → runs_lie s (GetStatus (result_ok c)) ≡ true
+  ok-lies at (Ok run) t = run_lies at 1 8 run t
+  ok-lies at (Err miscount) t = refl
 
-  identity-lies : (found : Found) → runs_lie s (GetStatus (identity_found s found)) ≡ true
+  identity-lies : (found : Option (ℕ × ℕ)) → runs_lie s (GetStatus (identity_found s found)) ≡ true
   unfolding identity_behind
-  identity-lies Nothing = refl
-  identity-lies (At at identifier) = if_counted_lem (at + 1) (counted_at s (at + 1) 1 8) (counted-told s (at + 1) 1 8)
+  identity-lies None = refl
+  identity-lies (Some (at, identifier)) = ok-lies (at + 1) (counted_at s (at + 1) 1 8) (counted-told s (at + 1) 1 8)
 
   reject_lies : (protocol : Protocol) (run : Run) → RejectLies protocol s run → lies s run ≡ true
   unfolding lies
@@ -55,5 +52,5 @@ module _ (s : List ℕ) where
     termination_request = refl;
   }
 
-  pub read-lies : (protocol : Protocol) (flag : Bool) (value : ℕ) (m : Message) → read_message protocol s ≡ Reads flag value m → runs_lie s m ≡ true
+  pub read-lies : (protocol : Protocol) (read : Reading) → read_message protocol s ≡ Ok read → runs_lie s read.message ≡ true
   read-lies protocol = of_read protocol s (λ m. runs_lie s m ≡ true) (λ few. each protocol)

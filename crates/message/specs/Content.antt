@@ -1,12 +1,9 @@
 -- What a message says: the message with the octets of its runs in the place of where they lie.
-use Rattle.std.specs.Prelude.{ℕ, ◌+◌, List, [], ◌∷◌, Bool, true, length, leb}
+use Rattle.std.specs.Prelude.{ℕ, ◌+◌, List, [], ◌∷◌, Bool, true, length, leb, Option, Some, None, option_map}
 use Rattle.octets.specs.Run.{part}
 use Rattle.octets.specs.declared.Run.{Run}
 use Rattle.octets.specs.declared.Reference.{Reference}
 use Rattle.message.specs.declared.Classmark.{Classmark}
-use Rattle.message.specs.declared.Identity.{Identity}
-use Rattle.message.specs.declared.Identity.TheVariants.{Absent, Present}
-use Rattle.message.specs.declared.Half.{Half}
 use Rattle.message.specs.declared.Message.{Message}
 use Rattle.message.specs.declared.Message.TheVariants.{
   Connect,
@@ -20,19 +17,14 @@ use Rattle.message.specs.declared.Message.TheVariants.{
   TerminationRequest,
 }
 
--- Octets that may be absent.
-pub data Optional : Type 0 where
-  absent : Optional
-  present : List ℕ → Optional
-
 -- The nine messages, in the order of clause 8.
 pub data Content : Type 0 where
   connect : (reference : Reference) (originator : ℕ) → Content
-  get_status : (identity : Optional) → Content
+  get_status : (identity : Option (List ℕ)) → Content
   immediate_setup : (key : ℕ) (classmark : Classmark) (identity : List ℕ) (reference : Reference) → Content
   set_parameter : (attributes : ℕ) → Content
   setup : (reference : Reference) → Content
-  status : (cause : List ℕ) (state attributes : Half) → Content
+  status : (cause : List ℕ) (state attributes : Option ℕ) → Content
   termination : (cause : List ℕ) → Content
   termination_reject : (cause : List ℕ) → Content
   termination_request : (reference : Reference) → Content
@@ -41,9 +33,8 @@ pub data Content : Type 0 where
 abbrev pub run_octets : List ℕ → Run → List ℕ
 run_octets s run = part s run.start run.count
 
-abbrev pub identity_octets : List ℕ → Identity → Optional
-identity_octets s Absent = absent
-identity_octets s (Present run) = present (run_octets s run)
+abbrev pub identity_octets : List ℕ → Option Run → Option (List ℕ)
+identity_octets s identity = option_map (run_octets s) identity
 
 -- What a message says whose runs lie in `s`.
 abbrev pub content_of : List ℕ → Message → Content
@@ -64,8 +55,8 @@ lies s run = leb (run.start + run.count) (length s)
 -- Each run of the message lies within `s`.
 abbrev pub runs_lie : List ℕ → Message → Bool
 runs_lie s (Connect reference originator) = true
-runs_lie s (GetStatus Absent) = true
-runs_lie s (GetStatus (Present identity)) = lies s identity
+runs_lie s (GetStatus None) = true
+runs_lie s (GetStatus (Some identity)) = lies s identity
 runs_lie s (ImmediateSetup key classmark identity reference) = lies s identity
 runs_lie s (SetParameter attributes) = true
 runs_lie s (Setup reference) = true

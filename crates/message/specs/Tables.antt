@@ -1,6 +1,6 @@
 -- GSM 04.69 and 24.068, clause 8: tables 8.1 to 8.9, row by row, and what a row is as octets. The two draw the same but for one row of table 8.8.
 -- A row names its element in the comment behind it; its format and its length in octets stand as the table has them.
-use Rattle.std.specs.Prelude.{ℕ, ◌+◌, ◌*◌, ◌^◌, List, [], ◌∷◌, ◌++◌, Bool, true, false, ◌&&◌, length, leb, ltb, eqb}
+use Rattle.std.specs.Prelude.{ℕ, ◌+◌, ◌*◌, ◌^◌, List, [], ◌∷◌, ◌++◌, Bool, true, false, ◌&&◌, length, leb, ltb, eqb, Option, Some, None}
 use Rattle.codes.specs.declared.protocol.Protocol.{Protocol}
 use Rattle.codes.specs.declared.protocol.Protocol.TheVariants.{Broadcast, Group}
 use Rattle.codes.specs.Protocol.{discriminator}
@@ -15,12 +15,7 @@ use Rattle.codes.specs.MessageTypes.{
   GET-STATUS,
   SET-PARAMETER,
 }
-use Rattle.message.specs.declared.Half.{Half}
-use Rattle.message.specs.declared.Half.TheVariants.{Absent, Present}
 use Rattle.message.specs.Content.{
-  Optional,
-  absent,
-  present,
   Content,
   connect,
   get_status,
@@ -48,8 +43,8 @@ pub data Element : Type 0 where
   halves : (first second : Field) → Element  -- two V of half an octet: the first named takes bits 1 to 4
   format_v : (count : ℕ) (value : List ℕ) → Element  -- value alone
   format_lv : (least most : ℕ) (value : List ℕ) → Element  -- a length octet and the value
-  format_tv : (identifier : ℕ) (value : Half) → Element  -- identifier in bits 5 to 8, value in bits 1 to 4; optional
-  format_tlv : (identifier least most : ℕ) (value : Optional) → Element  -- identifier, length octet and value; optional
+  format_tv : (identifier : ℕ) (value : Option ℕ) → Element  -- identifier in bits 5 to 8, value in bits 1 to 4; optional
+  format_tlv : (identifier least most : ℕ) (value : Option (List ℕ)) → Element  -- identifier, length octet and value; optional
 
 -- Reject cause, 9.4.3: GSM 04.69 draws it with a length octet, 24.068 without one and with four octets.
 abbrev pub reject_cause : Protocol → List ℕ → Element
@@ -136,10 +131,10 @@ abbrev pub octets_of : Element → List ℕ
 octets_of (halves first second) = octet_of first second ∷ []
 octets_of (format_v count value) = value
 octets_of (format_lv least most value) = counted value
-octets_of (format_tv identifier Absent) = []
-octets_of (format_tv identifier (Present value)) = (16 * identifier + value) ∷ []
-octets_of (format_tlv identifier least most absent) = []
-octets_of (format_tlv identifier least most (present value)) = identifier ∷ counted value
+octets_of (format_tv identifier None) = []
+octets_of (format_tv identifier (Some value)) = (16 * identifier + value) ∷ []
+octets_of (format_tlv identifier least most None) = []
+octets_of (format_tlv identifier least most (Some value)) = identifier ∷ counted value
 
 -- Rows as octets, one behind the other.
 abbrev pub drawn : List Element → List ℕ
@@ -163,10 +158,10 @@ abbrev pub element_fits : Element → Bool
 element_fits (halves first second) = field_fits first && field_fits second
 element_fits (format_v count value) = eqb (length value) count
 element_fits (format_lv least most value) = count_fits least most value
-element_fits (format_tv identifier Absent) = true
-element_fits (format_tv identifier (Present value)) = ltb value 16
-element_fits (format_tlv identifier least most absent) = true
-element_fits (format_tlv identifier least most (present value)) = leb least (2 + length value) && leb (2 + length value) most
+element_fits (format_tv identifier None) = true
+element_fits (format_tv identifier (Some value)) = ltb value 16
+element_fits (format_tlv identifier least most None) = true
+element_fits (format_tlv identifier least most (Some value)) = leb least (2 + length value) && leb (2 + length value) most
 
 abbrev pub rows_fit : List Element → Bool
 rows_fit [] = true

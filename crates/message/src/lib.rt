@@ -4,6 +4,7 @@
 mod kinds;
 
 ghost use Rattle.std.specs.Prelude.{◌≡◌};
+ghost use Rattle.message.specs.declared.Unread.TheVariants.{Unreadable};
 ghost use Rattle.message.specs.Reading.{read_message};
 
 use codes::protocol::{Protocol, discriminator};
@@ -24,20 +25,6 @@ pub struct Own {
     pub classmark: Classmark,
 }
 
-// An optional mobile identity.
-#[derive(Clone, Copy)]
-pub enum Identity {
-    Absent,
-    Present(Run),
-}
-
-// An optional element that is a half octet behind its identifier.
-#[derive(Clone, Copy)]
-pub enum Half {
-    Absent,
-    Present(u8),
-}
-
 // The messages, in the order of clause 8.
 #[derive(Clone, Copy)]
 pub enum Message {
@@ -46,7 +33,7 @@ pub enum Message {
         originator: u8,
     },
     GetStatus {
-        identity: Identity,
+        identity: Option<Run>,
     },
     ImmediateSetup {
         key: u8,
@@ -62,8 +49,8 @@ pub enum Message {
     },
     Status {
         cause: Run,
-        state: Half,
-        attributes: Half,
+        state: Option<u8>,
+        attributes: Option<u8>,
     },
     Termination {
         cause: Run,
@@ -77,7 +64,7 @@ pub enum Message {
 }
 
 // Why a message can't be read; the number that document 01 gives each is `fault_number`.
-#[derive(Clone, Copy)]
+#[derive(Clone, Copy, Debug, PartialEq, Eq)]
 pub enum Fault {
     // Under 2 octets.
     TooShort,
@@ -93,49 +80,51 @@ pub enum Fault {
     MustBeKnown(usize, u8),
 }
 
-// What stands behind the first two octets.
+// A message that was read, with the flag and the value of its transaction identifier.
 #[derive(Clone, Copy)]
-pub enum Body {
-    Is(Message),
-    Wrong(Fault),
+pub struct Reading {
+    pub flag: bool,
+    pub value: u8,
+    pub message: Message,
 }
 
-// What reading comes to.
-#[derive(Clone, Copy)]
-pub enum Reading {
-    Is {
-        flag: bool,
-        value: u8,
-        message: Message,
-    },
+// Why octets are not read as a message.
+#[derive(Clone, Copy, Debug, PartialEq, Eq)]
+pub enum Unread {
     Unreadable(Fault),
     TooLong,
 }
 
+impl From<Fault> for Unread {
+    ghost from_gives = { λ fault unread. unread ≡ Unreadable fault };
+
+    fn from(fault: Fault) -> Unread {
+        Unread::Unreadable(fault)
+    }
+}
+
 // Reads a message of the protocol.
-pub fn read(protocol: Protocol, octets: &[u8]) -> Reading
+pub fn read(protocol: Protocol, octets: &[u8]) -> Result<Reading, Unread>
     ensures { result ≡ read_message protocol octets.now }
 {
     if 251 < octets.len() {
-        return Reading::TooLong;
+        return Err(Unread::TooLong);
     }
     if octets.len() < 2 {
-        return Reading::Unreadable(Fault::TooShort);
+        return Err(Unread::Unreadable(Fault::TooShort));
     }
     let first = octets[0];
     if first % 16 != discriminator(protocol) {
-        return Reading::Unreadable(Fault::Discriminator);
+        return Err(Unread::Unreadable(Fault::Discriminator));
     }
     let kind = octets[1];
     if 128 <= kind {
-        return Reading::Unreadable(Fault::UnknownType);
+        return Err(Unread::Unreadable(Fault::UnknownType));
     }
-    match kinds::read_body(protocol, octets, kind % 64) {
-        Body::Is(message) => Reading::Is {
-            flag: 128 <= first,
-            value: first / 16 % 8,
-            message,
-        },
-        Body::Wrong(fault) => Reading::Unreadable(fault),
-    }
+    let message = kinds::read_body(protocol, octets, kind % 64)?;
+    Ok(Reading {
+        flag: 128 <= first,
+        value: first / 16 % 8,
+        message,
+    })
 }

@@ -1,5 +1,5 @@
 // The kinds of messages, as forms of the words that spell a message and of the answer that tells one.
-use text::words::{Words, next_word, part, same};
+use text::words::{next_word, part};
 
 // A row of 44 characters for each message type from 31 hex on, of which 37 hex is none, and behind them two for the answers 6 and 13. All kinds have their fields in
 // one record: 0 LENGTH or the answer, 1 flag, 2 transaction value, 3 key number, 4 to 7 classmark, 8 and 9 identity, 10 to 13 reference, 14 originator, 15 and 16
@@ -19,9 +19,9 @@ const ROWS: [u8; 528] = *b"0 L1 8 immediate_setup K8 CT O R...........\n\
 
 const FIRST: u8 = 0x31;
 
-// One behind the last kind; the rows of the answers 6 and 13.
-pub(crate) const BEHIND: u8 = 0x3b;
+const LAST: u8 = 0x3a;
 
+// The rows of the answers 6 and 13.
 pub(crate) const TOO_LONG: u8 = 0x3b;
 
 pub(crate) const UNREADABLE: u8 = 0x3c;
@@ -35,30 +35,20 @@ pub(crate) fn rows() -> [u8; 528] {
 
 // The row of a type.
 pub(crate) fn row_of(rows: &[u8; 528], kind: u8) -> &[u8] {
-    let number = std::num::wrapping_sub_u8(kind, FIRST);
+    let number = kind.wrapping_sub(FIRST);
     part(rows, 44 * (number as usize), 44)
 }
 
-fn is_named(rows: &[u8; 528], kind: u8, name: &[u8]) -> bool {
+// The name in the row of a type.
+fn name_of(rows: &[u8; 528], kind: u8) -> &[u8] {
     let row = row_of(rows, kind);
-    let word = next_word(
-        row,
-        Words {
-            at: NAME,
-            good: true,
-        },
-    );
-    same(name, part(row, NAME, word.count))
+    match next_word(row, NAME) {
+        None => b"",
+        Some(word) => part(row, NAME, word.count),
+    }
 }
 
-// The type of a name, and one behind the last for any other word.
-pub(crate) fn kind_named(rows: &[u8; 528], name: &[u8]) -> u8 {
-    let mut kind = FIRST;
-    while kind < BEHIND {
-        if is_named(rows, kind, name) {
-            return kind;
-        }
-        kind += 1;
-    }
-    kind
+// The type of a name.
+pub(crate) fn kind_named(rows: &[u8; 528], name: &[u8]) -> Option<u8> {
+    (FIRST..=LAST).find(|kind| name_of(rows, *kind) == name)
 }

@@ -6,7 +6,7 @@ use fields::words::octets_word;
 use forms::say_words;
 use message_numbers::Numbers;
 use text::output::Output;
-use text::words::{Words, finished, part};
+use text::words::{finished, part};
 
 // What reading comes to: a row of `kinds`, and what it says.
 #[derive(Clone, Copy)]
@@ -18,18 +18,17 @@ struct Told {
 pub fn answer_read(
     protocol: Protocol,
     line: &[u8],
-    words: Words,
+    at: usize,
     octets: &mut [u8],
     buffer: &mut [u8],
     output: Output,
 ) -> Output {
-    let word = octets_word(line, words, octets, 0);
-    let rest = word.words;
-    let count = word.count;
-    if !finished(line, rest) {
-        return malformed(buffer, output);
+    match octets_word(line, at, octets, 0) {
+        Some((count, end)) if finished(line, end) => {
+            say_reading(protocol, buffer, output, part(octets, 0, count))
+        }
+        _ => malformed(buffer, output),
     }
-    say_reading(protocol, buffer, output, part(octets, 0, count))
 }
 
 fn say_reading(protocol: Protocol, buffer: &mut [u8], output: Output, octets: &[u8]) -> Output {

@@ -1,42 +1,48 @@
 // The commands `write BUFLEN FLAG TV KIND FIELDS..` and `gwrite BUFLEN FLAG TV KIND FIELDS..` of the probe: what writing a message comes to, in numbers and
 // octets.
-use crate::kinds::{BEHIND, kind_named, row_of, rows};
+use crate::kinds::{kind_named, row_of, rows};
 use codes::message_type;
 use codes::protocol::Protocol;
 use fields::malformed;
 use forms::{say_words, take_words, up_to};
 use message_numbers::{Four, Numbers, NumbersWritten, Optional, Place, Three};
 use text::output::Output;
-use text::words::{Words, finished, next_word, part};
+use text::words::{finished, next_word, part};
 
 pub fn answer_write(
     protocol: Protocol,
     line: &[u8],
-    words: Words,
+    at: usize,
     octets: &mut [u8],
     buffer: &mut [u8],
     output: Output,
 ) -> Output {
-    let rows = rows();
-    let kind = kind_at(&rows, line, words);
     let mut record = [0u8; 36];
-    let rest = take_words(line, words, row_of(&rows, kind), &mut record, octets);
-    if (kind == BEHIND) | !finished(line, rest) {
+    let Some(kind) = take_fields(line, at, &mut record, octets) else {
         return malformed(buffer, output);
-    }
+    };
     let message = numbers_of(kind, &record);
     say_written(protocol, message, record[0], octets, buffer, output)
 }
 
+// The kind of the message that the whole line spells, whose fields are put into the record.
+fn take_fields(line: &[u8], at: usize, record: &mut [u8; 36], octets: &mut [u8]) -> Option<u8> {
+    let rows = rows();
+    let kind = kind_at(&rows, line, at)?;
+    let end = take_words(line, at, row_of(&rows, kind), record, octets)?;
+    if !finished(line, end) {
+        return None;
+    }
+    Some(kind)
+}
+
 // The kind stands behind three words.
-fn kind_at(rows: &[u8; 528], line: &[u8], words: Words) -> u8 {
-    let room = next_word(line, words);
-    let flag = next_word(line, room.words);
-    let value = next_word(line, flag.words);
-    let kind = next_word(line, value.words);
-    let start = kind.start;
-    let count = kind.count;
-    kind_named(rows, part(line, start, count))
+fn kind_at(rows: &[u8; 528], line: &[u8], at: usize) -> Option<u8> {
+    let room = next_word(line, at)?;
+    let flag = next_word(line, room.next)?;
+    let value = next_word(line, flag.next)?;
+    let kind = next_word(line, value.next)?;
+    kind_named(rows, part(line, kind.start, kind.count))
 }
 
 // A classmark that has no three octets can't be held by the numbers of a message: they are of no kind then.

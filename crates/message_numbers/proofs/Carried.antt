@@ -18,8 +18,7 @@ use Rattle.codes.specs.MessageTypes.{
   GET-STATUS,
   SET-PARAMETER,
 }
-use Rattle.message.specs.declared.Half.{Half}
-use Rattle.message.specs.declared.Half.TheVariants.{Absent, Present}
+use Rattle.std.specs.Prelude.{Option, Some, None}
 use Rattle.message.specs.declared.Message.{Message}
 use Rattle.message.specs.declared.Message.TheVariants.{
   Connect,
@@ -33,8 +32,6 @@ use Rattle.message.specs.declared.Message.TheVariants.{
   TerminationRequest,
 }
 use Rattle.message.specs.Content.{
-  absent,
-  present,
   Content,
   connect,
   get_status,
@@ -54,8 +51,6 @@ use Rattle.limits.proofs.Tests.{and_left, and_right}
 use Rattle.message_numbers.specs.declared.Optional.{Optional}
 use Rattle.message_numbers.specs.declared.Place.{Place}
 use Rattle.message_numbers.specs.declared.Numbers.{Numbers}
-use Rattle.message_numbers.specs.declared.Meant.{Meant}
-use Rattle.message_numbers.specs.declared.Meant.TheVariants.{Is, Nothing}
 use Rattle.message_numbers.specs.Numbers.{
   flag_number,
   classmark_of,
@@ -71,14 +66,14 @@ use Rattle.message_numbers.specs.Numbers.{
 use Rattle.message_numbers.specs.Back.{place_octets, optional_numbers, carried}
 
 -- The numbers of a half octet, and of the fields of a message.
-abbrev half_numbers : Half → List ℕ
-half_numbers Absent = 0 ∷ []
-half_numbers (Present value) = 1 ∷ value ∷ []
+abbrev half_numbers : Option ℕ → List ℕ
+half_numbers None = 0 ∷ []
+half_numbers (Some value) = 1 ∷ value ∷ []
 
 abbrev field_numbers : Content → List (List ℕ)
 field_numbers (connect reference originator) = reference_octets reference ∷ (originator ∷ []) ∷ []
-field_numbers (get_status absent) = [] ∷ []
-field_numbers (get_status (present identity)) = identity ∷ []
+field_numbers (get_status None) = [] ∷ []
+field_numbers (get_status (Some identity)) = identity ∷ []
 field_numbers (immediate_setup key classmark identity reference) =
     (key ∷ []) ∷ classmark_octets classmark ∷ identity ∷ reference_octets reference ∷ []
 field_numbers (set_parameter attributes) = (attributes ∷ []) ∷ []
@@ -123,16 +118,16 @@ pub record Says (s : List ℕ) (n : Numbers) (c : Content) : Type 0 where
   pub fields : carried s n ≡ field_numbers c
 
 module _ (s : List ℕ) (n : Numbers) where
-  abbrev SaysKind : Meant → Type 0
-  SaysKind (Is m) = Says s n (content_of s m)
-  SaysKind Nothing = Unit {0}
+  abbrev SaysKind : Option Message → Type 0
+  SaysKind (Some m) = Says s n (content_of s m)
+  SaysKind None = Unit {0}
 
   status_says : n.kind ≡ STATUS → SaysKind (status_of (run_of n.cause) n.state n.attributes)
   unfolding status_of carried type_of
   status_says k =
       let first : Bool = leb n.state.there 1 in
       let second : Bool = leb n.attributes.there 1 in
-      at_cond SaysKind (first && second) (Is (Status (run_of n.cause) (half_of n.state) (half_of n.attributes))) Nothing
+      at_cond SaysKind (first && second) (Some (Status (run_of n.cause) (half_of n.state) (half_of n.attributes))) None
       (λ e. record {
         kind = k;
         fields = rw (k, half_same n.state (and_left first second e), half_same n.attributes (and_right first second e));
@@ -143,40 +138,40 @@ module _ (s : List ℕ) (n : Numbers) where
   unfolding kind_of carried type_of
   kind_says =
       at_cond SaysKind (eqb n.kind IMMEDIATE-SETUP)
-      (Is (ImmediateSetup n.key (classmark_of n.classmark) (run_of n.identity) (reference_of n.reference))) _
+      (Some (ImmediateSetup n.key (classmark_of n.classmark) (run_of n.identity) (reference_of n.reference))) _
       (λ e. record { kind = eqb-true _ _ e; fields = rw (eqb-true n.kind IMMEDIATE-SETUP e) })
-      λ e. at_cond SaysKind (eqb n.kind SETUP) (Is (Setup (reference_of n.reference))) _
+      λ e. at_cond SaysKind (eqb n.kind SETUP) (Some (Setup (reference_of n.reference))) _
       (λ e. record { kind = eqb-true _ _ e; fields = rw (eqb-true n.kind SETUP e) })
-      λ e. at_cond SaysKind (eqb n.kind CONNECT) (Is (Connect (reference_of n.reference) n.originator)) _
+      λ e. at_cond SaysKind (eqb n.kind CONNECT) (Some (Connect (reference_of n.reference) n.originator)) _
       (λ e. record { kind = eqb-true _ _ e; fields = rw (eqb-true n.kind CONNECT e) })
-      λ e. at_cond SaysKind (eqb n.kind TERMINATION) (Is (Termination (run_of n.cause))) _
+      λ e. at_cond SaysKind (eqb n.kind TERMINATION) (Some (Termination (run_of n.cause))) _
       (λ e. record { kind = eqb-true _ _ e; fields = rw (eqb-true n.kind TERMINATION e) })
-      λ e. at_cond SaysKind (eqb n.kind TERMINATION-REQUEST) (Is (TerminationRequest (reference_of n.reference))) _
+      λ e. at_cond SaysKind (eqb n.kind TERMINATION-REQUEST) (Some (TerminationRequest (reference_of n.reference))) _
       (λ e. record { kind = eqb-true _ _ e; fields = rw (eqb-true n.kind TERMINATION-REQUEST e) })
-      λ e. at_cond SaysKind (eqb n.kind TERMINATION-REJECT) (Is (TerminationReject (run_of n.cause))) _
+      λ e. at_cond SaysKind (eqb n.kind TERMINATION-REJECT) (Some (TerminationReject (run_of n.cause))) _
       (λ e. record { kind = eqb-true _ _ e; fields = rw (eqb-true n.kind TERMINATION-REJECT e) })
       λ e. at_cond SaysKind (eqb n.kind STATUS) (status_of (run_of n.cause) n.state n.attributes) _
       (λ e. status_says (eqb-true _ _ e))
-      λ e. at_cond SaysKind (eqb n.kind GET-STATUS) (Is (GetStatus (identity_of n.identity))) _
+      λ e. at_cond SaysKind (eqb n.kind GET-STATUS) (Some (GetStatus (identity_of n.identity))) _
       (λ e. record { kind = eqb-true _ _ e; fields = rw (eqb-true n.kind GET-STATUS e) (identity-same s n.identity) })
-      λ e. at_cond SaysKind (eqb n.kind SET-PARAMETER) (Is (SetParameter n.attributes.value)) Nothing
+      λ e. at_cond SaysKind (eqb n.kind SET-PARAMETER) (Some (SetParameter n.attributes.value)) None
       (λ e. record { kind = eqb-true _ _ e; fields = rw (eqb-true n.kind SET-PARAMETER e) })
       (λ e. tt)
 
   -- The same of numbers that mean a message, and their flag is one of the two that a flag has.
-  abbrev SaysFlag : Meant → Type 0
-  SaysFlag (Is m) = (n.flag ≡ flag_number (flag_of n)) × Says s n (content_of s m)
-  SaysFlag Nothing = Unit {0}
+  abbrev SaysFlag : Option Message → Type 0
+  SaysFlag (Some m) = (n.flag ≡ flag_number (flag_of n)) × Says s n (content_of s m)
+  SaysFlag None = Unit {0}
 
-  with_flag : leb n.flag 1 ≡ true → (k : Meant) → SaysKind k → SaysFlag k
-  with_flag low (Is m) says = (flag_same n low, says)
-  with_flag low Nothing says = tt
+  with_flag : leb n.flag 1 ≡ true → (k : Option Message) → SaysKind k → SaysFlag k
+  with_flag low (Some m) says = (flag_same n low, says)
+  with_flag low None says = tt
 
   says_flag : SaysFlag (message_of n)
   unfolding message_of
-  says_flag = at_cond SaysFlag (leb n.flag 1) (kind_of n) Nothing (λ e. with_flag e (kind_of n) kind_says) (λ e. tt)
+  says_flag = at_cond SaysFlag (leb n.flag 1) (kind_of n) None (λ e. with_flag e (kind_of n) kind_says) (λ e. tt)
 
-  pub message_says : (m : Message) → message_of n ≡ Is m → (n.flag ≡ flag_number (flag_of n)) × Says s n (content_of s m)
+  pub message_says : (m : Message) → message_of n ≡ Some m → (n.flag ≡ flag_number (flag_of n)) × Says s n (content_of s m)
   message_says m e = subst SaysFlag e says_flag
 
 -- What says the same has the same type and the same fields.

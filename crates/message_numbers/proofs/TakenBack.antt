@@ -7,16 +7,15 @@ use native.Mathlib.Omega.{arith}
 use lib.Dec.{leb, eqb}
 use borrow.Author.Tests.{ne_eqb}
 use Rattle.codes.specs.declared.protocol.Protocol.{Protocol}
-use Rattle.element.specs.declared.Found.{Found}
-use Rattle.element.specs.declared.Found.TheVariants.{At, Nothing as NotFound}
-use Rattle.element.specs.declared.Counted.{Counted}
-use Rattle.element.specs.declared.Counted.TheVariants.{Octets, CutShort as CountedShort, WrongLength as CountedWrong}
+use Rattle.std.specs.Prelude.{Option, Some, None, Result, Ok, Err}
+use Rattle.element.specs.declared.Miscount.{Miscount}
+use Rattle.octets.specs.declared.Run.{Run}
+use Rattle.std.specs.Result.{result_ok}
+use Rattle.message.specs.declared.Reading.{Reading}
 use Rattle.element.specs.Elements.{element_from}
 use Rattle.element.specs.Counted.{counted_at}
 use Rattle.element.proofs.Elements.{within_says}
 use Rattle.element.proofs.Counting.{counted-told, Told as Counts}
-use Rattle.message.specs.declared.Identity.TheVariants.{Absent as Anonymous, Present as Named}
-use Rattle.message.specs.declared.Half.TheVariants.{Absent, Present}
 use Rattle.message.specs.declared.Message.{Message}
 use Rattle.message.specs.declared.Message.TheVariants.{
   Connect,
@@ -29,10 +28,8 @@ use Rattle.message.specs.declared.Message.TheVariants.{
   TerminationReject,
   TerminationRequest,
 }
-use Rattle.message.specs.declared.Reading.TheVariants.{Is as Reads}
-use Rattle.message.specs.Reading.{if_counted, identity_behind, identity_found, read_message}
+use Rattle.message.specs.Reading.{identity_behind, identity_found, read_message}
 use Rattle.message.proofs.Each.{Each, of_read}
-use Rattle.message_numbers.specs.declared.Meant.TheVariants.{Is}
 use Rattle.message_numbers.specs.Numbers.{flag_number, numbers_of, status_of, kind_of, message_of}
 use Rattle.message_numbers.specs.Back.{Shown, Means}
 
@@ -49,18 +46,18 @@ heads f v (Termination c) = (refl, refl)
 heads f v (TerminationReject c) = (refl, refl)
 heads f v (TerminationRequest r) = (refl, refl)
 
-kinds : (f : Bool) (v : ℕ) (m : Message) → Shown m → kind_of (numbers_of f v m) ≡ Is m
+kinds : (f : Bool) (v : ℕ) (m : Message) → Shown m → kind_of (numbers_of f v m) ≡ Some m
 unfolding numbers_of status_of kind_of
 kinds f v (Connect r o) h = refl
-kinds f v (GetStatus Anonymous) h = refl
-kinds f v (GetStatus (Named i)) h = rw (ne_eqb i.count 0 (λ e. omega arith))
+kinds f v (GetStatus None) h = refl
+kinds f v (GetStatus (Some i)) h = rw (ne_eqb i.count 0 (λ e. omega arith))
 kinds f v (ImmediateSetup k c i r) h = refl
 kinds f v (SetParameter a) h = refl
 kinds f v (Setup r) h = refl
-kinds f v (Status c Absent Absent) h = refl
-kinds f v (Status c Absent (Present y)) h = refl
-kinds f v (Status c (Present x) Absent) h = refl
-kinds f v (Status c (Present x) (Present y)) h = refl
+kinds f v (Status c None None) h = refl
+kinds f v (Status c None (Some y)) h = refl
+kinds f v (Status c (Some x) None) h = refl
+kinds f v (Status c (Some x) (Some y)) h = refl
 kinds f v (Termination c) h = refl
 kinds f v (TerminationReject c) h = refl
 kinds f v (TerminationRequest r) h = refl
@@ -82,15 +79,14 @@ taken_back f v m h =
 
 -- An optional identity that was read has an octet at least.
 module _ (s : List ℕ) where
-  identities : (at : ℕ) (c : Counted) → Counts s at 1 8 c → Shown (GetStatus (if_counted c))
-  identities at (Octets r) t = (within_says r.count 1 8 t.within).0
-  identities at CountedShort t = tt
-  identities at CountedWrong t = tt
+  identities : (at : ℕ) (c : Result Run Miscount) → Counts s at 1 8 c → Shown (GetStatus (result_ok c))
+  identities at (Ok r) t = (within_says r.count 1 8 t.within).0
+  identities at (Err miscount) t = tt
 
-  identity : (found : Found) → Shown (GetStatus (identity_found s found))
+  identity : (found : Option (ℕ × ℕ)) → Shown (GetStatus (identity_found s found))
   unfolding identity_behind
-  identity NotFound = tt
-  identity (At at identifier) = identities (at + 1) (counted_at s (at + 1) 1 8) (counted-told s (at + 1) 1 8)
+  identity None = tt
+  identity (Some (at, identifier)) = identities (at + 1) (counted_at s (at + 1) 1 8) (counted-told s (at + 1) 1 8)
 
   each : (protocol : Protocol) → Each protocol s Shown
   each protocol = record {
@@ -106,5 +102,6 @@ module _ (s : List ℕ) where
   }
 
   -- The numbers of every message that was read, taken back, are that message.
-  pub read-taken-back : (protocol : Protocol) (f : Bool) (v : ℕ) (m : Message) → read_message protocol s ≡ Reads f v m → Means (numbers_of f v m) f v m
-  read-taken-back protocol f v m e = taken_back f v m (of_read protocol s Shown (λ few. each protocol) f v m e)
+  pub read-taken-back : (protocol : Protocol) (read : Reading) → read_message protocol s ≡ Ok read
+      → Means (numbers_of read.flag read.value read.message) read.flag read.value read.message
+  read-taken-back protocol read e = taken_back read.flag read.value read.message (of_read protocol s Shown (λ few. each protocol) read e)

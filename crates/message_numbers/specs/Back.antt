@@ -1,5 +1,5 @@
 -- What it means that numbers are taken back: as the message they came from, and as the octets written from them.
-use Rattle.std.specs.Prelude.{ℕ, ◌≤◌, ◌≡◌, List, [], ◌∷◌, Bool, cond, eqb}
+use Rattle.std.specs.Prelude.{ℕ, ◌≤◌, ◌≡◌, List, [], ◌∷◌, Bool, cond, eqb, Some, None}
 use Rattle.octets.specs.Rows.{rows}
 use Rattle.codes.specs.MessageTypes.{
   IMMEDIATE-SETUP,
@@ -12,7 +12,6 @@ use Rattle.codes.specs.MessageTypes.{
   GET-STATUS,
   SET-PARAMETER,
 }
-use Rattle.message.specs.declared.Identity.TheVariants.{Absent as Anonymous, Present as Named}
 use Rattle.message.specs.declared.Message.{Message}
 use Rattle.message.specs.declared.Message.TheVariants.{
   Connect,
@@ -30,15 +29,14 @@ use Rattle.message_numbers.specs.declared.Optional.{Optional}
 use Rattle.message_numbers.specs.declared.Place.{Place}
 use Rattle.codes.specs.declared.protocol.Protocol.{Protocol}
 use Rattle.message_numbers.specs.declared.Numbers.{Numbers}
-use Rattle.message_numbers.specs.declared.Meant.TheVariants.{Is}
 use Rattle.message_numbers.specs.Numbers.{classmark_of, reference_of, run_of, message_of, flag_of}
 use Rattle.message_numbers.specs.Outcomes.{read_numbers}
 
 -- An optional identity that is present has an octet at least, as every one has that was read: numbers know no other.
 abbrev pub Shown : Message → Type 0
 Shown (Connect reference originator) = Unit {0}
-Shown (GetStatus Anonymous) = Unit {0}
-Shown (GetStatus (Named identity)) = 1 ≤ identity.count
+Shown (GetStatus None) = Unit {0}
+Shown (GetStatus (Some identity)) = 1 ≤ identity.count
 Shown (ImmediateSetup key classmark identity reference) = Unit {0}
 Shown (SetParameter attributes) = Unit {0}
 Shown (Setup reference) = Unit {0}
@@ -49,7 +47,7 @@ Shown (TerminationRequest reference) = Unit {0}
 
 -- The numbers mean this flag, this transaction value and this message.
 pub record Means (n : Numbers) (flag : Bool) (value : ℕ) (message : Message) : Type 0 where
-  pub meant : message_of n ≡ Is message
+  pub meant : message_of n ≡ Some message
   pub same_flag : flag_of n ≡ flag
   pub same-value : n.value ≡ value
 

@@ -1,5 +1,5 @@
 -- A message as numbers: which numbers each kind has, and which message numbers mean. What a kind does not carry is zero, and has no effect on the way back.
-use Rattle.std.specs.Prelude.{ℕ, List, [], ◌∷◌, Bool, cond, ◌&&◌, leb, eqb}
+use Rattle.std.specs.Prelude.{ℕ, List, [], ◌∷◌, Bool, cond, ◌&&◌, leb, eqb, Option, Some, None}
 use Rattle.octets.specs.Rows.{rows}
 use Rattle.codes.specs.MessageTypes.{
   IMMEDIATE-SETUP,
@@ -15,10 +15,6 @@ use Rattle.codes.specs.MessageTypes.{
 use Rattle.octets.specs.declared.Run.{Run}
 use Rattle.octets.specs.declared.Reference.{Reference}
 use Rattle.message.specs.declared.Classmark.{Classmark}
-use Rattle.message.specs.declared.Identity.{Identity}
-use Rattle.message.specs.declared.Identity.TheVariants.{Absent as Anonymous, Present as Named}
-use Rattle.message.specs.declared.Half.{Half}
-use Rattle.message.specs.declared.Half.TheVariants.{Absent, Present}
 use Rattle.message.specs.declared.Message.{Message}
 use Rattle.message.specs.declared.Message.TheVariants.{
   Connect,
@@ -36,8 +32,6 @@ use Rattle.message_numbers.specs.declared.Four.{Four}
 use Rattle.message_numbers.specs.declared.Optional.{Optional}
 use Rattle.message_numbers.specs.declared.Place.{Place}
 use Rattle.message_numbers.specs.declared.Numbers.{Numbers}
-use Rattle.message_numbers.specs.declared.Meant.{Meant}
-use Rattle.message_numbers.specs.declared.Meant.TheVariants.{Is, Nothing}
 
 abbrev pub three_of : Classmark → Three
 three_of c = record { first = c.first; second = c.second; third = c.third }
@@ -46,9 +40,9 @@ abbrev pub four_of : Reference → Four
 four_of r = record { first = r.first; second = r.second; third = r.third; fourth = r.fourth }
 
 -- 1 and the value of a half octet that is there; 0 and 0 of one that is not.
-abbrev pub optional_of : Half → Optional
-optional_of Absent = record { there = 0; value = 0 }
-optional_of (Present value) = record { there = 1; value = value }
+abbrev pub optional_of : Option ℕ → Optional
+optional_of None = record { there = 0; value = 0 }
+optional_of (Some value) = record { there = 1; value = value }
 
 abbrev pub place_of : Run → Place
 place_of run = record { start = run.start; count = run.count }
@@ -56,9 +50,9 @@ place_of run = record { start = run.start; count = run.count }
 abbrev pub nowhere : Place
 nowhere = record { start = 0; count = 0 }
 
-abbrev pub identity_place : Identity → Place
-identity_place Anonymous = nowhere
-identity_place (Named run) = place_of run
+abbrev pub identity_place : Option Run → Place
+identity_place None = nowhere
+identity_place (Some run) = place_of run
 
 abbrev pub flag_number : Bool → ℕ
 flag_number flag = cond flag 1 0
@@ -70,7 +64,7 @@ abbrev pub no_four : Four
 no_four = record { first = 0; second = 0; third = 0; fourth = 0 }
 
 abbrev pub unsaid : Optional
-unsaid = optional_of Absent
+unsaid = optional_of None
 
 -- A message's numbers, in the order of the struct's fields.
 abbrev pub numbers : ℕ → ℕ → ℕ → ℕ → Three → Four → ℕ → Optional → Optional → Place → Place → Numbers
@@ -115,41 +109,41 @@ classmark_of t = record { first = t.first; second = t.second; third = t.third }
 abbrev pub reference_of : Four → Reference
 reference_of f = record { first = f.first; second = f.second; third = f.third; fourth = f.fourth }
 
-abbrev pub half_of : Optional → Half
-half_of o = cond (eqb o.there 0) Absent (Present o.value)
+abbrev pub half_of : Optional → Option ℕ
+half_of o = cond (eqb o.there 0) None (Some o.value)
 
 abbrev pub run_of : Place → Run
 run_of p = record { start = p.start; count = p.count }
 
 -- An identity of no octets is absent.
-abbrev pub identity_of : Place → Identity
-identity_of p = cond (eqb p.count 0) Anonymous (Named (run_of p))
+abbrev pub identity_of : Place → Option Run
+identity_of p = cond (eqb p.count 0) None (Some (run_of p))
 
 -- What says whether a half octet of a STATUS is there is 0 or 1.
-unfoldable pub status_of : Run → Optional → Optional → Meant
+unfoldable pub status_of : Run → Optional → Optional → Option Message
 status_of cause state attributes =
-    cond (leb state.there 1 && leb attributes.there 1) (Is (Status cause (half_of state) (half_of attributes))) Nothing
+    cond (leb state.there 1 && leb attributes.there 1) (Some (Status cause (half_of state) (half_of attributes))) None
 
 -- The message of each type.
-abbrev pub kind_rows : Numbers → List (ℕ × Meant)
+abbrev pub kind_rows : Numbers → List (ℕ × Option Message)
 kind_rows n =
-    (IMMEDIATE-SETUP, Is (ImmediateSetup n.key (classmark_of n.classmark) (run_of n.identity) (reference_of n.reference))) ∷
-    (SETUP, Is (Setup (reference_of n.reference))) ∷
-    (CONNECT, Is (Connect (reference_of n.reference) n.originator)) ∷
-    (TERMINATION, Is (Termination (run_of n.cause))) ∷
-    (TERMINATION-REQUEST, Is (TerminationRequest (reference_of n.reference))) ∷
-    (TERMINATION-REJECT, Is (TerminationReject (run_of n.cause))) ∷
+    (IMMEDIATE-SETUP, Some (ImmediateSetup n.key (classmark_of n.classmark) (run_of n.identity) (reference_of n.reference))) ∷
+    (SETUP, Some (Setup (reference_of n.reference))) ∷
+    (CONNECT, Some (Connect (reference_of n.reference) n.originator)) ∷
+    (TERMINATION, Some (Termination (run_of n.cause))) ∷
+    (TERMINATION-REQUEST, Some (TerminationRequest (reference_of n.reference))) ∷
+    (TERMINATION-REJECT, Some (TerminationReject (run_of n.cause))) ∷
     (STATUS, status_of (run_of n.cause) n.state n.attributes) ∷
-    (GET-STATUS, Is (GetStatus (identity_of n.identity))) ∷
-    (SET-PARAMETER, Is (SetParameter n.attributes.value)) ∷
+    (GET-STATUS, Some (GetStatus (identity_of n.identity))) ∷
+    (SET-PARAMETER, Some (SetParameter n.attributes.value)) ∷
     []
 
-unfoldable pub kind_of : Numbers → Meant
-kind_of n = rows n.kind Nothing (kind_rows n)
+unfoldable pub kind_of : Numbers → Option Message
+kind_of n = rows n.kind None (kind_rows n)
 
 -- The message that numbers mean: the flag is 0 or 1, and the type one of the nine.
-unfoldable pub message_of : Numbers → Meant
-message_of n = cond (leb n.flag 1) (kind_of n) Nothing
+unfoldable pub message_of : Numbers → Option Message
+message_of n = cond (leb n.flag 1) (kind_of n) None
 
 -- Its flag.
 abbrev pub flag_of : Numbers → Bool

@@ -11,9 +11,9 @@ ghost use Rattle.message_numbers.specs.Numbers.{
   message_of,
 };
 
-use crate::{Four, Meant, Numbers, Optional, Place, Three};
+use crate::{Four, Numbers, Optional, Place, Three};
 use codes::message_type;
-use message::{Classmark, Half, Identity, Message};
+use message::{Classmark, Message};
 use octets::{Reference, Run};
 
 fn classmark_of(three: Three) -> Classmark
@@ -37,13 +37,13 @@ fn reference_of(four: Four) -> Reference
     }
 }
 
-fn half_of(optional: Optional) -> Half
+fn half_of(optional: Optional) -> Option<u8>
     ensures { result ≡ half_of optional }
 {
     if optional.there == 0 {
-        return Half::Absent;
+        return None;
     }
-    Half::Present(optional.value)
+    Some(optional.value)
 }
 
 fn run_of(place: Place) -> Run
@@ -55,26 +55,26 @@ fn run_of(place: Place) -> Run
     }
 }
 
-fn identity_of(place: Place) -> Identity
+fn identity_of(place: Place) -> Option<Run>
     ensures { result ≡ identity_of place }
 {
     if place.count == 0 {
-        return Identity::Absent;
+        return None;
     }
-    Identity::Present(run_of(place))
+    Some(run_of(place))
 }
 
 // STATUS: what says whether a half octet is there is 0 or 1.
-fn status_of(cause: Run, state: Optional, attributes: Optional) -> Meant
+fn status_of(cause: Run, state: Optional, attributes: Optional) -> Option<Message>
     ensures { result ≡ status_of cause state attributes }
 {
     if 1 < state.there {
-        return Meant::Nothing;
+        return None;
     }
     if 1 < attributes.there {
-        return Meant::Nothing;
+        return None;
     }
-    Meant::Is(Message::Status {
+    Some(Message::Status {
         cause,
         state: half_of(state),
         attributes: half_of(attributes),
@@ -82,7 +82,7 @@ fn status_of(cause: Run, state: Optional, attributes: Optional) -> Meant
 }
 
 // The message of a type.
-fn kind_of(numbers: Numbers) -> Meant
+fn kind_of(numbers: Numbers) -> Option<Message>
     ensures { result ≡ kind_of numbers }
 {
     let reference = reference_of(numbers.reference);
@@ -92,37 +92,37 @@ fn kind_of(numbers: Numbers) -> Meant
     let cause = run_of(numbers.cause);
     let kind = numbers.kind;
     match kind {
-        message_type::IMMEDIATE_SETUP => Meant::Is(Message::ImmediateSetup {
+        message_type::IMMEDIATE_SETUP => Some(Message::ImmediateSetup {
             key: numbers.key,
             classmark,
             identity,
             reference,
         }),
-        message_type::SETUP => Meant::Is(Message::Setup { reference }),
-        message_type::CONNECT => Meant::Is(Message::Connect {
+        message_type::SETUP => Some(Message::Setup { reference }),
+        message_type::CONNECT => Some(Message::Connect {
             reference,
             originator: numbers.originator,
         }),
-        message_type::TERMINATION => Meant::Is(Message::Termination { cause }),
-        message_type::TERMINATION_REQUEST => Meant::Is(Message::TerminationRequest { reference }),
-        message_type::TERMINATION_REJECT => Meant::Is(Message::TerminationReject { cause }),
+        message_type::TERMINATION => Some(Message::Termination { cause }),
+        message_type::TERMINATION_REQUEST => Some(Message::TerminationRequest { reference }),
+        message_type::TERMINATION_REJECT => Some(Message::TerminationReject { cause }),
         message_type::STATUS => status_of(cause, numbers.state, attributes),
-        message_type::GET_STATUS => Meant::Is(Message::GetStatus {
+        message_type::GET_STATUS => Some(Message::GetStatus {
             identity: identity_of(numbers.identity),
         }),
-        message_type::SET_PARAMETER => Meant::Is(Message::SetParameter {
+        message_type::SET_PARAMETER => Some(Message::SetParameter {
             attributes: attributes.value,
         }),
-        _ => Meant::Nothing,
+        _ => None,
     }
 }
 
 // The message that numbers mean: the flag is 0 or 1, and the type one of the nine.
-pub(crate) fn message_of(numbers: Numbers) -> Meant
+pub(crate) fn message_of(numbers: Numbers) -> Option<Message>
     ensures { result ≡ message_of numbers }
 {
     if 1 < numbers.flag {
-        return Meant::Nothing;
+        return None;
     }
     kind_of(numbers)
 }

@@ -20,7 +20,7 @@ ghost use Rattle.message_numbers.specs.Numbers.{
 
 use crate::{Four, Numbers, Optional, Place, Three};
 use codes::message_type;
-use message::{Classmark, Half, Identity, Message};
+use message::{Classmark, Message};
 use octets::{Reference, Run};
 
 fn three_of(classmark: Classmark) -> Three
@@ -44,12 +44,12 @@ fn four_of(reference: Reference) -> Four
     }
 }
 
-fn optional_of(half: Half) -> Optional
+fn optional_of(half: Option<u8>) -> Optional
     ensures { result ≡ optional_of half }
 {
     match half {
-        Half::Absent => Optional { there: 0, value: 0 },
-        Half::Present(value) => Optional { there: 1, value },
+        None => Optional { there: 0, value: 0 },
+        Some(value) => Optional { there: 1, value },
     }
 }
 
@@ -62,12 +62,12 @@ fn place_of(run: Run) -> Place
     }
 }
 
-fn identity_place(identity: Identity) -> Place
+fn identity_place(identity: Option<Run>) -> Place
     ensures { result ≡ identity_place identity }
 {
     match identity {
-        Identity::Absent => Place { start: 0, count: 0 },
-        Identity::Present(run) => place_of(run),
+        None => Place { start: 0, count: 0 },
+        Some(run) => place_of(run),
     }
 }
 
@@ -117,7 +117,14 @@ fn referring(kind: u8, flag: u8, value: u8, reference: Reference, originator: u8
 }
 
 // STATUS, TERMINATION and TERMINATION REJECT.
-fn caused(kind: u8, flag: u8, value: u8, cause: Run, state: Half, attributes: Half) -> Numbers
+fn caused(
+    kind: u8,
+    flag: u8,
+    value: u8,
+    cause: Run,
+    state: Option<u8>,
+    attributes: Option<u8>,
+) -> Numbers
     ensures { result ≡ numbers kind flag value 0 no_three no_four 0 (optional_of state) (optional_of attributes) nowhere (place_of cause) }
 {
     Numbers {
@@ -149,7 +156,7 @@ fn immediate(
 }
 
 // GET STATUS.
-fn asking(flag: u8, value: u8, identity: Identity) -> Numbers
+fn asking(flag: u8, value: u8, identity: Option<Run>) -> Numbers
     ensures { result ≡ numbers GET-STATUS flag value 0 no_three no_four 0 unsaid unsaid (identity_place identity) nowhere }
 {
     Numbers {
@@ -196,22 +203,15 @@ pub(crate) fn numbers_of(bit: bool, value: u8, message: Message) -> Numbers
             attributes,
         } => caused(message_type::STATUS, flag, value, cause, state, attributes),
         Message::Termination { cause } => {
-            caused(
-                message_type::TERMINATION,
-                flag,
-                value,
-                cause,
-                Half::Absent,
-                Half::Absent,
-            )
+            caused(message_type::TERMINATION, flag, value, cause, None, None)
         }
         Message::TerminationReject { cause } => caused(
             message_type::TERMINATION_REJECT,
             flag,
             value,
             cause,
-            Half::Absent,
-            Half::Absent,
+            None,
+            None,
         ),
         Message::TerminationRequest { reference } => {
             referring(message_type::TERMINATION_REQUEST, flag, value, reference, 0)

@@ -19,8 +19,8 @@ use back::message_of;
 use codes::protocol::Protocol;
 use codes::wide::answer;
 use kinds::numbers_of;
-use message::{Fault, Message, Reading};
-use writing::Wrote;
+use message::{Fault, Unread};
+use writing::Unwritten;
 
 // Octets side by side, as C has them in an array.
 #[repr(C)]
@@ -93,13 +93,6 @@ pub struct NumbersWritten {
     pub length: usize,
 }
 
-// What numbers mean, apart from flag and transaction value.
-#[derive(Clone, Copy)]
-pub enum Meant {
-    Is(Message),
-    Nothing,
-}
-
 // The number that document 01 gives a fault.
 fn fault_number(fault: Fault) -> u32
     ensures { result ≡ fault_number fault }
@@ -130,34 +123,30 @@ pub fn read(protocol: Protocol, octets: &[u8]) -> NumbersRead
     ensures { result ≡ read_numbers protocol octets.now }
 {
     match message::read(protocol, octets) {
-        Reading::Is {
-            flag,
-            value,
-            message,
-        } => NumbersRead {
+        Ok(read) => NumbersRead {
             answer: answer::TAKEN,
             fault: 0,
-            message: numbers_of(flag, value, message),
+            message: numbers_of(read.flag, read.value, read.message),
         },
-        Reading::Unreadable(fault) => refused_with(answer::UNREADABLE, fault_number(fault)),
-        Reading::TooLong => refused_with(answer::LONG_MESSAGE, 0),
+        Err(Unread::Unreadable(fault)) => refused_with(answer::UNREADABLE, fault_number(fault)),
+        Err(Unread::TooLong) => refused_with(answer::LONG_MESSAGE, 0),
     }
 }
 
 // What the writer says, in numbers.
-fn wrote_numbers(wrote: Wrote) -> NumbersWritten
+fn wrote_numbers(wrote: Result<usize, Unwritten>) -> NumbersWritten
     ensures { result ≡ wrote_numbers wrote }
 {
     match wrote {
-        Wrote::Written(length) => NumbersWritten {
+        Ok(length) => NumbersWritten {
             answer: answer::TAKEN,
             length,
         },
-        Wrote::ShortBuffer => NumbersWritten {
+        Err(Unwritten::ShortBuffer) => NumbersWritten {
             answer: answer::SHORT_BUFFER,
             length: 0,
         },
-        Wrote::OutOfRange => NumbersWritten {
+        Err(Unwritten::OutOfRange) => NumbersWritten {
             answer: answer::OUT_OF_RANGE,
             length: 0,
         },
@@ -192,10 +181,8 @@ pub fn write(
 {
     let flag = numbers.flag == 1;
     let value = numbers.value;
-    match message_of(numbers) {
-        Meant::Is(message) => wrote_numbers(writing::write(
-            protocol, buffer, source, flag, value, message,
-        )),
-        Meant::Nothing => not_written(buffer.len()),
-    }
+    let Some(message) = message_of(numbers) else {
+        return not_written(buffer.len());
+    };
+    wrote_numbers(writing::write(protocol, buffer, source, flag, value, message))
 }

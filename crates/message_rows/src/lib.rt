@@ -4,7 +4,7 @@
 ghost use Rattle.std.specs.Prelude.{◌≡◌};
 ghost use Rattle.codes.specs.declared.state.State.TheVariants.{U0p, U1, U2, U5, U2sl};
 ghost use Rattle.codes.specs.MessageTypes.{CONNECT, TERMINATION-REJECT};
-ghost use Rattle.timer.specs.declared.Timer.TheVariants.{NoTimer, Term};
+ghost use Rattle.timer.specs.declared.Timer.TheVariants.{Term};
 ghost use Rattle.context.specs.Remembered.{returning};
 ghost use Rattle.transitions.specs.declared.Send.TheVariants.{Nothing};
 ghost use Rattle.transitions.specs.declared.Stores.TheVariants as Stores;
@@ -27,8 +27,8 @@ const CONNECTED: Decision = Decision::Take(Taken {
     next: State::U2,
     actions: action::NONE,
     sends: Send::Nothing,
-    stops: Timer::MmEst,
-    sets: Timer::NoTimer,
+    stops: Some(Timer::MmEst),
+    sets: None,
     stores: Stores::ItsReference,
     memory: Memory::Keep,
     note: Note::Nothing,
@@ -39,8 +39,8 @@ const CONNECTED_IMPLICITLY: Decision = Decision::Take(Taken {
     next: State::U2,
     actions: action::TELL_MM_EXISTS,
     sends: Send::Nothing,
-    stops: Timer::MmEst,
-    sets: Timer::NoTimer,
+    stops: Some(Timer::MmEst),
+    sets: None,
     stores: Stores::ItsReference,
     memory: Memory::Keep,
     note: Note::Nothing,
@@ -51,8 +51,8 @@ const REJECTED: Decision = Decision::Take(Taken {
     next: State::U5,
     actions: action::INFORM,
     sends: Send::Nothing,
-    stops: Timer::Term,
-    sets: Timer::NoTimer,
+    stops: Some(Timer::Term),
+    sets: None,
     stores: Stores::Nothing,
     memory: Memory::Keep,
     note: Note::Nothing,
@@ -63,8 +63,8 @@ const TERMINATED: Decision = Decision::Take(Taken {
     next: State::U0,
     actions: action::INFORM + action::RELEASE,
     sends: Send::Nothing,
-    stops: Timer::NoTimer,
-    sets: Timer::NoTimer,
+    stops: None,
+    sets: None,
     stores: Stores::Nothing,
     memory: Memory::Keep,
     note: Note::Nothing,
@@ -78,15 +78,15 @@ const UNKNOWN: Decision = Decision::Report(cause::TYPE_NON_EXISTENT);
 
 // The same from the second table on: back to where the termination was asked from.
 fn returned(remembered: Remembered) -> Decision
-    ensures { result ≡ Take (record { next = returning remembered U5; actions = 1; sends = Nothing; stops = Term; sets = NoTimer; stores = Stores.Nothing; memory = Forget; note = Note.Nothing }) }
+    ensures { result ≡ Take (record { next = returning remembered U5; actions = 1; sends = Nothing; stops = Some Term; sets = None; stores = Stores.Nothing; memory = Forget; note = Note.Nothing }) }
 {
     let next = context::returning(remembered, State::U5);
     Decision::Take(Taken {
         next,
         actions: action::INFORM,
         sends: Send::Nothing,
-        stops: Timer::Term,
-        sets: Timer::NoTimer,
+        stops: Some(Timer::Term),
+        sets: None,
         stores: Stores::Nothing,
         memory: Memory::Forget,
         note: Note::Nothing,
@@ -94,15 +94,14 @@ fn returned(remembered: Remembered) -> Decision
 }
 
 // TERMINATION REJECT in U5.
+#[tactic(auto, unfolding(transitions::specs::Table::heard_in))]
 fn rejected(table: Table, context: Context) -> Decision
     ensures { result ≡ heard_in (rows_of Broadcast table) U5 context TERMINATION-REJECT }
 {
     let remembered = context.remembered;
     match table {
         Table::First => REJECTED,
-        Table::Second => returned(remembered),
-        Table::Third => returned(remembered),
-        Table::Group => returned(remembered),
+        _ => returned(remembered),
     }
 }
 
@@ -118,96 +117,102 @@ fn connected_in_u1(table: Table, context: Context) -> Decision
 }
 
 // A message in U0.p.
+#[tactic(auto, unfolding(transitions::specs::Table::heard_in))]
 fn heard_in_u0p(table: Table, context: Context, code: u8) -> Decision
     ensures { result ≡ heard_in (rows_of Broadcast table) U0p context code }
 {
     match code {
-        message_type::IMMEDIATE_SETUP => INCOMPATIBLE,
-        message_type::SETUP => INCOMPATIBLE,
         message_type::CONNECT => CONNECTED,
         message_type::TERMINATION => TERMINATED,
-        message_type::TERMINATION_REQUEST => INCOMPATIBLE,
-        message_type::TERMINATION_REJECT => INCOMPATIBLE,
-        message_type::STATUS => INCOMPATIBLE,
         message_type::GET_STATUS => Decision::TellStatus,
         message_type::SET_PARAMETER => Decision::SetParameters,
+        message_type::IMMEDIATE_SETUP
+        | message_type::SETUP
+        | message_type::TERMINATION_REQUEST
+        | message_type::TERMINATION_REJECT
+        | message_type::STATUS => INCOMPATIBLE,
         0..=48 | 55..=55 | 59..=255 => UNKNOWN,
     }
 }
 
 // A message in U1.
+#[tactic(auto, unfolding(transitions::specs::Table::heard_in))]
 fn heard_in_u1(table: Table, context: Context, code: u8) -> Decision
     ensures { result ≡ heard_in (rows_of Broadcast table) U1 context code }
 {
     match code {
-        message_type::IMMEDIATE_SETUP => INCOMPATIBLE,
-        message_type::SETUP => INCOMPATIBLE,
         message_type::CONNECT => connected_in_u1(table, context),
         message_type::TERMINATION => TERMINATED,
-        message_type::TERMINATION_REQUEST => INCOMPATIBLE,
-        message_type::TERMINATION_REJECT => INCOMPATIBLE,
-        message_type::STATUS => INCOMPATIBLE,
         message_type::GET_STATUS => Decision::TellStatus,
         message_type::SET_PARAMETER => Decision::SetParameters,
+        message_type::IMMEDIATE_SETUP
+        | message_type::SETUP
+        | message_type::TERMINATION_REQUEST
+        | message_type::TERMINATION_REJECT
+        | message_type::STATUS => INCOMPATIBLE,
         0..=48 | 55..=55 | 59..=255 => UNKNOWN,
     }
 }
 
 // A message in U5.
+#[tactic(auto, unfolding(transitions::specs::Table::heard_in))]
 fn heard_in_u5(table: Table, context: Context, code: u8) -> Decision
     ensures { result ≡ heard_in (rows_of Broadcast table) U5 context code }
 {
     match code {
-        message_type::IMMEDIATE_SETUP => INCOMPATIBLE,
-        message_type::SETUP => INCOMPATIBLE,
-        message_type::CONNECT => INCOMPATIBLE,
         message_type::TERMINATION => TERMINATED,
-        message_type::TERMINATION_REQUEST => INCOMPATIBLE,
         message_type::TERMINATION_REJECT => rejected(table, context),
-        message_type::STATUS => INCOMPATIBLE,
         message_type::GET_STATUS => Decision::TellStatus,
         message_type::SET_PARAMETER => Decision::SetParameters,
+        message_type::IMMEDIATE_SETUP
+        | message_type::SETUP
+        | message_type::CONNECT
+        | message_type::TERMINATION_REQUEST
+        | message_type::STATUS => INCOMPATIBLE,
         0..=48 | 55..=55 | 59..=255 => UNKNOWN,
     }
 }
 
 // A message in U2, and so in U3, U4 and U6.
+#[tactic(auto, unfolding(transitions::specs::Table::heard_in))]
 fn heard_elsewhere(table: Table, context: Context, code: u8) -> Decision
     ensures { result ≡ heard_in (rows_of Broadcast table) U2 context code }
 {
     match code {
-        message_type::IMMEDIATE_SETUP => INCOMPATIBLE,
-        message_type::SETUP => INCOMPATIBLE,
-        message_type::CONNECT => INCOMPATIBLE,
         message_type::TERMINATION => TERMINATED,
-        message_type::TERMINATION_REQUEST => INCOMPATIBLE,
-        message_type::TERMINATION_REJECT => INCOMPATIBLE,
-        message_type::STATUS => INCOMPATIBLE,
         message_type::GET_STATUS => Decision::TellStatus,
         message_type::SET_PARAMETER => Decision::SetParameters,
+        message_type::IMMEDIATE_SETUP
+        | message_type::SETUP
+        | message_type::CONNECT
+        | message_type::TERMINATION_REQUEST
+        | message_type::TERMINATION_REJECT
+        | message_type::STATUS => INCOMPATIBLE,
         0..=48 | 55..=55 | 59..=255 => UNKNOWN,
     }
 }
 
 // A message in U2sl, and so in every sub-state of U2: these tables have no row of a group call.
+#[tactic(auto, unfolding(transitions::specs::Table::heard_in))]
 fn heard_in_sub_state(table: Table, context: Context, code: u8) -> Decision
     ensures { result ≡ heard_in (rows_of Broadcast table) U2sl context code }
 {
     match code {
-        message_type::IMMEDIATE_SETUP => INCOMPATIBLE,
-        message_type::SETUP => INCOMPATIBLE,
-        message_type::CONNECT => INCOMPATIBLE,
-        message_type::TERMINATION => INCOMPATIBLE,
-        message_type::TERMINATION_REQUEST => INCOMPATIBLE,
-        message_type::TERMINATION_REJECT => INCOMPATIBLE,
-        message_type::STATUS => INCOMPATIBLE,
         message_type::GET_STATUS => Decision::TellStatus,
         message_type::SET_PARAMETER => Decision::SetParameters,
+        message_type::IMMEDIATE_SETUP
+        | message_type::SETUP
+        | message_type::CONNECT
+        | message_type::TERMINATION
+        | message_type::TERMINATION_REQUEST
+        | message_type::TERMINATION_REJECT
+        | message_type::STATUS => INCOMPATIBLE,
         0..=48 | 55..=55 | 59..=255 => UNKNOWN,
     }
 }
 
 // What the tables of broadcast calls say of a message of a type in the context's state.
+#[tactic(auto, unfolding(transitions::specs::Table::decided_by, transitions::specs::Table::decided_in, transitions::specs::Table::heard_in))]
 fn heard(table: Table, context: Context, code: u8) -> Decision
     ensures { result ≡ decided_by (rows_of Broadcast table) context 18 code }
 {
@@ -216,17 +221,10 @@ fn heard(table: Table, context: Context, code: u8) -> Decision
         State::U0 => Decision::Ignore,
         State::U0p => heard_in_u0p(table, context, code),
         State::U1 => heard_in_u1(table, context, code),
-        State::U2 => heard_elsewhere(table, context, code),
-        State::U3 => heard_elsewhere(table, context, code),
-        State::U4 => heard_elsewhere(table, context, code),
         State::U5 => heard_in_u5(table, context, code),
-        State::U6 => heard_elsewhere(table, context, code),
-        State::U2sl => heard_in_sub_state(table, context, code),
-        State::U2wr => heard_in_sub_state(table, context, code),
-        State::U2r => heard_in_sub_state(table, context, code),
-        State::U2ws => heard_in_sub_state(table, context, code),
-        State::U2sr => heard_in_sub_state(table, context, code),
-        State::U2nc => heard_in_sub_state(table, context, code),
+        State::U2 | State::U3 | State::U4 | State::U6 => heard_elsewhere(table, context, code),
+        State::U2sl | State::U2wr | State::U2r | State::U2ws | State::U2sr | State::U2nc =>
+            heard_in_sub_state(table, context, code),
     }
 }
 

@@ -2,9 +2,9 @@
 use crate::faults::tell_fault;
 use codes::attributes::parameters_of;
 use codes::protocol::Protocol;
-use codes::state::{CallState, call_state_of};
+use codes::state::call_state_of;
 use fields::{fault_number, octet_at};
-use message::{Fault, Half, Identity, Message, Reading};
+use message::{Fault, Message, Unread};
 use octets::{Reference, Run};
 use saying::describe::{tell_cause, tell_kind, tell_state};
 use saying::{tell, tell_hex, tell_number, tell_place};
@@ -13,13 +13,9 @@ use text::words::part;
 // Tells a message of a call of this protocol, without a line end.
 pub fn tell_briefly(protocol: Protocol, octets: &[u8]) {
     match message::read(protocol, octets) {
-        Reading::TooLong => tell_too_long(octets),
-        Reading::Unreadable(fault) => tell_unreadable(protocol, octets, fault),
-        Reading::Is {
-            flag,
-            value,
-            message,
-        } => tell_message(protocol, octets, flag, value, message),
+        Err(Unread::TooLong) => tell_too_long(octets),
+        Err(Unread::Unreadable(fault)) => tell_unreadable(protocol, octets, fault),
+        Ok(read) => tell_message(protocol, octets, read.flag, read.value, read.message),
     }
 }
 
@@ -88,10 +84,10 @@ fn tell_connect(reference: Reference, originator: u8) {
 }
 
 // GET STATUS may name the one that is asked.
-fn tell_asked(octets: &[u8], identity: Identity) {
+fn tell_asked(octets: &[u8], identity: Option<Run>) {
     match identity {
-        Identity::Absent => tell(b", no mobile identity"),
-        Identity::Present(run) => tell_identity(octets, run),
+        None => tell(b", no mobile identity"),
+        Some(run) => tell_identity(octets, run),
     }
 }
 
@@ -102,15 +98,21 @@ fn tell_immediate_setup(octets: &[u8], key: u8, identity: Run, reference: Refere
     tell_reference(reference);
 }
 
-fn tell_status(protocol: Protocol, octets: &[u8], cause: Run, state: Half, attributes: Half) {
+fn tell_status(
+    protocol: Protocol,
+    octets: &[u8],
+    cause: Run,
+    state: Option<u8>,
+    attributes: Option<u8>,
+) {
     tell_cause_part(octets, cause);
     match state {
-        Half::Absent => tell(b", no call state"),
-        Half::Present(code) => tell_call_state(protocol, code),
+        None => tell(b", no call state"),
+        Some(code) => tell_call_state(protocol, code),
     }
     match attributes {
-        Half::Absent => tell(b", no state attributes"),
-        Half::Present(half) => tell_attributes(half),
+        None => tell(b", no state attributes"),
+        Some(half) => tell_attributes(half),
     }
 }
 
@@ -159,8 +161,8 @@ fn tell_first_part(first: u8) {
 fn tell_call_state(protocol: Protocol, code: u8) {
     tell(b", call state ");
     match call_state_of(protocol, code) {
-        CallState::Is(state) => tell_state(protocol, state),
-        CallState::Reserved => tell_reserved(code),
+        Some(state) => tell_state(protocol, state),
+        None => tell_reserved(code),
     }
 }
 

@@ -19,7 +19,7 @@ pub(crate) fn tell_fault(protocol: Protocol, octets: &[u8], fault: Fault) {
 // The octet behind the last one is the first that is missing.
 fn tell_missing(octets: &[u8], why: &[u8]) {
     tell(b"octet ");
-    tell_place(std::num::wrapping_add_usize(octets.len(), 1));
+    tell_place(octets.len().wrapping_add(1));
     tell(why);
 }
 

@@ -10,10 +10,11 @@ ghost use Rattle.std.specs.Prelude.{◌<◌, ◌≤◌, length};
 pub use brief::tell_briefly;
 use codes::message_type;
 use codes::protocol::{Protocol, discriminator};
-use element::{Counted, Found, counted_at, seek};
+use element::{Miscount, counted_at, seek};
 use faults::tell_fault;
 use fields::{fault_number, octet_at};
-use message::{Fault, Message, Reading};
+use filing::ending::Failure;
+use message::{Fault, Message, Unread};
 use octets::Run;
 use saying::describe::{
     tell_attributes, tell_call_state, tell_cause, tell_element, tell_kind, tell_places,
@@ -22,16 +23,12 @@ use saying::{tell, tell_hex, tell_number, tell_octet, tell_place};
 use text::words::part;
 
 // Takes a message apart, and answers the verdict. Its own discriminator says of which protocol it is.
-pub fn tell_apart(octets: &[u8]) -> u8 {
+pub fn tell_apart(octets: &[u8]) -> Result<(), Failure> {
     let protocol = protocol_of(octet_at(octets, 0));
     match message::read(protocol, octets) {
-        Reading::TooLong => tell_too_long(octets),
-        Reading::Unreadable(fault) => tell_unreadable(protocol, octets, fault),
-        Reading::Is {
-            flag,
-            value,
-            message,
-        } => tell_message(protocol, octets, flag, value, message),
+        Err(Unread::TooLong) => tell_too_long(octets),
+        Err(Unread::Unreadable(fault)) => tell_unreadable(protocol, octets, fault),
+        Ok(read) => tell_message(protocol, octets, read.flag, read.value, read.message),
     }
 }
 
@@ -69,11 +66,17 @@ fn tell_flag(flag: bool) {
     tell(b", flag 0, ");
 }
 
-fn tell_message(protocol: Protocol, octets: &[u8], flag: bool, value: u8, message: Message) -> u8 {
+fn tell_message(
+    protocol: Protocol,
+    octets: &[u8],
+    flag: bool,
+    value: u8,
+    message: Message,
+) -> Result<(), Failure> {
     tell_summary(protocol, octets, flag, value);
     tell_heads(octets);
     tell_fields(octets, message);
-    0
+    Ok(())
 }
 
 // Octets 1 and 2, as far as they are there.
@@ -113,22 +116,22 @@ fn tell_second(second: u8) {
 
 // ---- faults
 
-fn tell_too_long(octets: &[u8]) -> u8 {
+fn tell_too_long(octets: &[u8]) -> Result<(), Failure> {
     tell(b"too long (answer 6): the message has ");
     tell_place(octets.len());
     tell(b" octets, and may have at most 251\n");
     tell_heads(octets);
-    1
+    Err(Failure::Refused)
 }
 
-fn tell_unreadable(protocol: Protocol, octets: &[u8], fault: Fault) -> u8 {
+fn tell_unreadable(protocol: Protocol, octets: &[u8], fault: Fault) -> Result<(), Failure> {
     tell(b"unreadable (answer 13, fault ");
     tell_number(fault_number(fault));
     tell(b"): ");
     tell_fault(protocol, octets, fault);
     tell(b"\n");
     tell_heads(octets);
-    1
+    Err(Failure::Refused)
 }
 
 // ---- fields
@@ -215,7 +218,7 @@ fn tell_referred(octets: &[u8], kind: u8) {
 fn tell_immediate_setup(octets: &[u8], key: u8, identity: Run) {
     let start = identity.start;
     let count = identity.count;
-    let end = std::num::wrapping_add_usize(start, count);
+    let end = start.wrapping_add(count);
     tell_places(2, 1);
     tell(b"ciphering key sequence number ");
     tell_number(key);
@@ -224,11 +227,7 @@ fn tell_immediate_setup(octets: &[u8], key: u8, identity: Run) {
     tell_length(7, count, b"length of the mobile identity ");
     tell_run(octets, start, count, b"mobile identity ");
     tell_reference(octets, end);
-    tell_optional(
-        octets,
-        std::num::wrapping_add_usize(end, 4),
-        message_type::IMMEDIATE_SETUP,
-    );
+    tell_optional(octets, end.wrapping_add(4), message_type::IMMEDIATE_SETUP);
 }
 
 // STATUS, TERMINATION and TERMINATION REJECT: the cause's length octet, its first part and the diagnostics behind that. A cause that begins with octet 3 has no
@@ -241,7 +240,7 @@ fn tell_caused(octets: &[u8], cause: Run, kind: u8) {
     }
     tell_cause_part(start, octet_at(octets, start));
     tell_behind_cause(octets, start, count);
-    tell_optional(octets, std::num::wrapping_add_usize(start, count), kind);
+    tell_optional(octets, start.wrapping_add(count), kind);
 }
 
 // Bit 8 set ends the cause parts; where another part follows, the cause is unspecific (9.4.3).
@@ -259,7 +258,7 @@ fn tell_cause_part(place: usize, first: u8) {
 
 // What stands behind the first cause part. `start` is the place of the whole cause, `count` its count.
 fn tell_behind_cause(octets: &[u8], start: usize, count: usize) {
-    let behind = std::num::wrapping_add_usize(start, 1);
+    let behind = start.wrapping_add(1);
     if count < 2 {
         return;
     }
@@ -285,25 +284,23 @@ fn element_end(octets: &[u8], at: usize) -> usize
     if 128 <= octets[at] {
         return at + 1;
     }
-    match counted_at(octets, at + 1, 0, 255) {
-        Counted::Octets(run) => {
-            let end = std::num::wrapping_add_usize(run.start, run.count);
-            if end <= at {
-                return octets.len();
-            }
-            if octets.len() < end {
-                return octets.len();
-            }
-            end
-        }
-        Counted::CutShort => octets.len(),
-        Counted::WrongLength => octets.len(),
+    let Ok(run) = counted_at(octets, at + 1, 0, 255) else {
+        return octets.len();
+    };
+    let end = std::num::wrapping_add_usize(run.start, run.count);
+    if end <= at {
+        return octets.len();
     }
+    if octets.len() < end {
+        return octets.len();
+    }
+    end
 }
 
 // What stands behind the mandatory part, element by element.
 fn tell_optional(octets: &[u8], from: usize, kind: u8) {
     let mut at = from;
+    // Steps by what each element takes: no iterator goes so.
     while at < octets.len() {
         let end = element_end(octets, at);
         tell_places(at, end - at);
@@ -314,17 +311,14 @@ fn tell_optional(octets: &[u8], from: usize, kind: u8) {
 
 // Whether the element at `at` is the first one from `from` on whose identifier is `low` to `high`.
 fn is_first(octets: &[u8], from: usize, at: usize, low: u8, high: u8) -> bool {
-    match seek(octets, from, low, high) {
-        Found::At(place, _) => place == at,
-        Found::Nothing => false,
-    }
+    seek(octets, from, low, high).is_some_and(|(place, _)| place == at)
 }
 
 // The mobile identity of GET STATUS, the call state and the state attributes of STATUS, the first of each; any other element is skipped.
 fn tell_one(octets: &[u8], from: usize, at: usize, kind: u8) {
     let identifier = octet_at(octets, at);
     if (kind == message_type::GET_STATUS) & is_first(octets, from, at, 0x17, 0x17) {
-        tell_own(octets, std::num::wrapping_add_usize(at, 1));
+        tell_own(octets, at.wrapping_add(1));
         return;
     }
     if (kind == message_type::STATUS) & is_first(octets, from, at, 0xa0, 0xaf) {
@@ -341,9 +335,9 @@ fn tell_one(octets: &[u8], from: usize, at: usize, kind: u8) {
 // The first mobile identity of GET STATUS, whose length octet is at `place`: it counts if it has 1 to 8 octets and is whole.
 fn tell_own(octets: &[u8], place: usize) {
     match counted_at(octets, place, 1, 8) {
-        Counted::Octets(run) => tell_identity(octets, run),
-        Counted::CutShort => tell(b"mobile identity, runs past the end, counts as absent\n"),
-        Counted::WrongLength => tell_wrong_identity(octet_at(octets, place)),
+        Ok(run) => tell_identity(octets, run),
+        Err(Miscount::CutShort) => tell(b"mobile identity, runs past the end, counts as absent\n"),
+        Err(Miscount::WrongLength) => tell_wrong_identity(octet_at(octets, place)),
     }
 }
 
@@ -366,11 +360,7 @@ fn is_whole(octets: &[u8], at: usize) -> bool {
     if 128 <= octet_at(octets, at) {
         return true;
     }
-    match counted_at(octets, std::num::wrapping_add_usize(at, 1), 0, 255) {
-        Counted::Octets(_) => true,
-        Counted::CutShort => false,
-        Counted::WrongLength => false,
-    }
+    counted_at(octets, at.wrapping_add(1), 0, 255).is_ok()
 }
 
 fn tell_skipped(identifier: u8, whole: bool) {

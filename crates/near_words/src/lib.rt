@@ -14,32 +14,14 @@ pub fn complain_unknown(word: &[u8]) {
 
 // How many bytes two texts share at their start.
 fn shared_start(text: &[u8], other: &[u8]) -> usize {
-    let mut count: usize = 0;
-    while count < text.len() {
-        if other.len() <= count {
-            return count;
-        }
-        if text[count] != other[count] {
-            return count;
-        }
-        count += 1;
-    }
-    count
+    let pairs = text.iter().zip(other.iter());
+    pairs.take_while(|(byte, across)| byte == across).count()
 }
 
 // How many bytes two texts share at their end.
 fn shared_end(text: &[u8], other: &[u8]) -> usize {
-    let mut count: usize = 0;
-    while count < text.len() {
-        if other.len() <= count {
-            return count;
-        }
-        if text[text.len() - 1 - count] != other[other.len() - 1 - count] {
-            return count;
-        }
-        count += 1;
-    }
-    count
+    let pairs = text.iter().rev().zip(other.iter().rev());
+    pairs.take_while(|(byte, across)| byte == across).count()
 }
 
 fn is_near(word: &[u8], known: &[u8]) -> bool {
@@ -47,8 +29,7 @@ fn is_near(word: &[u8], known: &[u8]) -> bool {
     if start == word.len() {
         return true;
     }
-    let both = std::num::wrapping_add_usize(start, shared_end(word, known));
-    let reach = std::num::wrapping_add_usize(both, 2);
+    let reach = start.wrapping_add(shared_end(word, known)).wrapping_add(2);
     (word.len() <= reach) & (known.len() <= reach)
 }
 

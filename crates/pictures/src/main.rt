@@ -4,79 +4,57 @@
 
 use capture_words::write_capture;
 use filing::arguments::{argument, has_arguments};
-use filing::ending::tell_verdict;
+use filing::ending::{Failure, tell_verdict};
 use filing::{log_room, read_file};
 use saying::complain;
-use text::words::{part, same};
 use timeline::tell_timeline;
 
-fn run_pcap(rt: &HostRuntime) -> u8 {
+fn run_pcap(rt: &HostRuntime) -> Result<(), Failure> {
     if !has_arguments(
         rt,
         2,
         b"pcap",
         b"two arguments, a log and the name of the capture file to make",
     ) {
-        return 2;
+        return Err(Failure::NotRun);
     }
-    let mut name = io::buffer();
-    let length = argument(rt, 2, &mut name);
-    let mut log = log_room();
-    let filed = read_file(rt, b"pcap", part(&name, 0, length), &mut log);
-    if !filed.good {
-        return 2;
-    }
-    let count = filed.count;
-    let mut path = io::buffer();
-    let end = argument(rt, 3, &mut path);
-    write_capture(
-        rt,
-        part(&name, 0, length),
-        part(&log, 0, count),
-        part(&path, 0, end),
-    )
+    let mut first = io::buffer();
+    let name = argument(rt, 2, &mut first);
+    let mut room = log_room();
+    let log = read_file(rt, b"pcap", name, &mut room)?.octets;
+    let mut second = io::buffer();
+    write_capture(rt, name, log, argument(rt, 3, &mut second))
 }
 
-fn run_timeline(rt: &HostRuntime) -> u8 {
+fn run_timeline(rt: &HostRuntime) -> Result<(), Failure> {
     if !has_arguments(
         rt,
         2,
         b"timeline",
         b"two arguments, a log and the name of the picture to make",
     ) {
-        return 2;
+        return Err(Failure::NotRun);
     }
-    let mut name = io::buffer();
-    let length = argument(rt, 2, &mut name);
-    let mut log = log_room();
-    let filed = read_file(rt, b"timeline", part(&name, 0, length), &mut log);
-    if !filed.good {
-        return 2;
-    }
-    let count = filed.count;
-    let mut path = io::buffer();
-    let end = argument(rt, 3, &mut path);
-    tell_timeline(
-        rt,
-        part(&log, 0, count),
-        part(&name, 0, length),
-        part(&path, 0, end),
-    )
+    let mut first = io::buffer();
+    let name = argument(rt, 2, &mut first);
+    let mut room = log_room();
+    let log = read_file(rt, b"timeline", name, &mut room)?.octets;
+    let mut second = io::buffer();
+    tell_timeline(rt, log, name, argument(rt, 3, &mut second))
 }
 
-fn run(rt: &HostRuntime, word: &[u8]) -> u8 {
-    if same(word, b"pcap") {
-        return run_pcap(rt);
+fn run(rt: &HostRuntime, word: &[u8]) -> Result<(), Failure> {
+    match word {
+        b"pcap" => run_pcap(rt),
+        b"timeline" => run_timeline(rt),
+        _ => {
+            complain(b"pictures: its words are pcap and timeline\n");
+            Err(Failure::NotRun)
+        }
     }
-    if same(word, b"timeline") {
-        return run_timeline(rt);
-    }
-    complain(b"pictures: its words are pcap and timeline\n");
-    2
 }
 
 fn main(rt: HostRuntime) {
-    let mut text = io::buffer();
-    let count = argument(&rt, 1, &mut text);
-    tell_verdict(&rt, run(&rt, part(&text, 0, count)));
+    let mut word = io::buffer();
+    tell_verdict(&rt, run(&rt, argument(&rt, 1, &mut word)));
 }

@@ -9,8 +9,20 @@ use record_command::answer_record;
 use settings_command::answer_settings;
 use step_command::answer_step;
 use text::output::Output;
-use text::words::{Words, next_word, part, same};
+use text::words::{next_word, part};
 use version::Table;
+
+// A command, of one kind of call where there is one for each.
+#[derive(Clone, Copy)]
+enum Command {
+    Read(Protocol),
+    Write(Protocol),
+    Step(Table),
+    Settings,
+    Judge,
+    Record(Table),
+    Mend,
+}
 
 // Answers a line. `octets` is lent for the octets that its words spell.
 pub(crate) fn answer_line(
@@ -19,73 +31,48 @@ pub(crate) fn answer_line(
     buffer: &mut [u8],
     output: Output,
 ) -> Output {
-    let words = Words { at: 0, good: true };
-    let word = next_word(line, words);
-    let start = word.start;
-    let count = word.count;
-    let command = command_of(part(line, start, count));
-    answer_command(command, line, word.words, octets, buffer, output)
+    let Some(word) = next_word(line, 0) else {
+        return malformed(buffer, output);
+    };
+    match command_of(part(line, word.start, word.count)) {
+        None => malformed(buffer, output),
+        Some(command) => answer_command(command, line, word.next, octets, buffer, output),
+    }
 }
 
-// The number of a command, in the order of docs/PROBE.md, and 0 for any other word. The word is looked up first and the command called then: a test and a
-// call by turns would carry every test along to every call.
-fn command_of(name: &[u8]) -> u8 {
-    if same(name, b"read") {
-        return 1;
+// The command of a name. The word is looked up first and the command called then: a test and a call by turns would carry every test along to every call.
+fn command_of(name: &[u8]) -> Option<Command> {
+    match name {
+        b"read" => Some(Command::Read(Protocol::Broadcast)),
+        b"write" => Some(Command::Write(Protocol::Broadcast)),
+        b"step" => Some(Command::Step(version::NEWEST)),
+        b"settings" => Some(Command::Settings),
+        b"judge" => Some(Command::Judge),
+        b"record" => Some(Command::Record(version::NEWEST)),
+        b"gread" => Some(Command::Read(Protocol::Group)),
+        b"gwrite" => Some(Command::Write(Protocol::Group)),
+        b"gstep" => Some(Command::Step(Table::Group)),
+        b"grecord" => Some(Command::Record(Table::Group)),
+        b"mend" => Some(Command::Mend),
+        _ => None,
     }
-    if same(name, b"write") {
-        return 2;
-    }
-    if same(name, b"step") {
-        return 3;
-    }
-    if same(name, b"settings") {
-        return 4;
-    }
-    if same(name, b"judge") {
-        return 5;
-    }
-    if same(name, b"record") {
-        return 6;
-    }
-    if same(name, b"gread") {
-        return 7;
-    }
-    if same(name, b"gwrite") {
-        return 8;
-    }
-    if same(name, b"gstep") {
-        return 9;
-    }
-    if same(name, b"grecord") {
-        return 10;
-    }
-    if same(name, b"mend") {
-        return 11;
-    }
-    0
 }
 
 fn answer_command(
-    command: u8,
+    command: Command,
     line: &[u8],
-    rest: Words,
+    at: usize,
     octets: &mut [u8],
     buffer: &mut [u8],
     output: Output,
 ) -> Output {
     match command {
-        1 => answer_read(Protocol::Broadcast, line, rest, octets, buffer, output),
-        2 => answer_write(Protocol::Broadcast, line, rest, octets, buffer, output),
-        3 => answer_step(version::NEWEST, line, rest, octets, buffer, output),
-        4 => answer_settings(line, rest, octets, buffer, output),
-        5 => answer_judge(line, rest, octets, buffer, output),
-        6 => answer_record(version::NEWEST, line, rest, octets, buffer, output),
-        7 => answer_read(Protocol::Group, line, rest, octets, buffer, output),
-        8 => answer_write(Protocol::Group, line, rest, octets, buffer, output),
-        9 => answer_step(Table::Group, line, rest, octets, buffer, output),
-        10 => answer_record(Table::Group, line, rest, octets, buffer, output),
-        11 => answer_mend(line, rest, octets, buffer, output),
-        _ => malformed(buffer, output),
+        Command::Read(protocol) => answer_read(protocol, line, at, octets, buffer, output),
+        Command::Write(protocol) => answer_write(protocol, line, at, octets, buffer, output),
+        Command::Step(table) => answer_step(table, line, at, octets, buffer, output),
+        Command::Settings => answer_settings(line, at, octets, buffer, output),
+        Command::Judge => answer_judge(line, at, octets, buffer, output),
+        Command::Record(table) => answer_record(table, line, at, octets, buffer, output),
+        Command::Mend => answer_mend(line, at, octets, buffer, output),
     }
 }

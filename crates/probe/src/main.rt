@@ -6,16 +6,15 @@ mod answer;
 mod input;
 
 use filing::arguments::argument_count;
-use filing::ending::{has_reader_gone, tell_verdict};
-use input::{line_room, octets_room, stream};
+use filing::ending::{Failure, has_reader_gone, tell_verdict};
+use input::{Stop, line_room, octets_room, stream};
 use saying::{complain, flush};
 use std::process::ExitCode;
 
-// Answers the verdict.
-fn run_probe(rt: &HostRuntime) -> u8 {
+fn run_probe(rt: &HostRuntime) -> Result<(), Failure> {
     if argument_count(rt) != 2 {
         complain(b"heidezirkel probe: takes no arguments; commands come on standard input\n");
-        return 2;
+        return Err(Failure::NotRun);
     }
     let mut lines = line_room();
     let mut octets = octets_room();
@@ -23,21 +22,22 @@ fn run_probe(rt: &HostRuntime) -> u8 {
     let end = stream(rt, &mut lines, &mut octets, &mut buffer);
     let output = end.output;
     flush(&buffer, output);
-    if end.stop == 1 {
-        return 0;
+    match end.stop {
+        Some(Stop::Ended) => Ok(()),
+        Some(Stop::Unheard) => Err(Failure::NotRun),
+        Some(Stop::Unreadable) | None => {
+            complain(b"heidezirkel probe: standard input can't be read\n");
+            Err(Failure::NotRun)
+        }
     }
-    if end.stop != 3 {
-        complain(b"heidezirkel probe: standard input can't be read\n");
-    }
-    2
 }
 
 // Without a reader there is no verdict: the status is that of a program that a broken pipe ends.
 fn main(rt: HostRuntime) -> ExitCode {
-    let verdict = run_probe(&rt);
+    let ended = run_probe(&rt);
     if has_reader_gone() {
         return ExitCode::from(141);
     }
-    tell_verdict(&rt, verdict);
+    tell_verdict(&rt, ended);
     ExitCode::SUCCESS
 }

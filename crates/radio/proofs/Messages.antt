@@ -10,9 +10,9 @@ use lib.Seq.{take_at, drop_at}
 use Rattle.octets.proofs.Choice.{at_cond}
 use Rattle.codes.specs.declared.state.State.TheVariants.{U0, U1}
 use Rattle.codes.specs.declared.protocol.Protocol.{Protocol}
-use Rattle.message.specs.declared.Identity.{Identity}
+use Rattle.std.specs.Prelude.{Option, Some}
+use Rattle.octets.specs.declared.Run.{Run}
 use Rattle.message.specs.declared.Message.TheVariants.{GetStatus}
-use Rattle.message.specs.declared.Half.TheVariants.{Present}
 use Rattle.message.specs.declared.Own.{Own}
 use Rattle.message.specs.Content.{Content, immediate_setup, setup, termination_request, status}
 use Rattle.message.specs.Tables.{table, type_of, written}
@@ -54,7 +54,7 @@ module _ (protocol : Protocol) (x : Context) where
   unfolding sent written table
   request_six = refl
 
-  telling_six : (cause state attributes : ℕ) → length (sent protocol x (status (cause ∷ []) (Present state) (Present attributes))) ≡ 6
+  telling_six : (cause state attributes : ℕ) → length (sent protocol x (status (cause ∷ []) (Some state) (Some attributes))) ≡ 6
   telling_six cause state attributes = telling-length protocol x (cause ∷ []) state attributes
 
   immediate-length : (own : Own) (identity : List ℕ) → length (sent protocol x (immediate_setup own.key own.classmark identity x.reference)) ≡ 12 + length identity
@@ -162,7 +162,7 @@ module _ (own : Own) (identity : List ℕ) (room : ℕ) (x : Context) (h : Happe
   request_octets number there owns speaks = reacts (comes (terminating x) 0 (a_request x)) (rw number (sent_at_once x fit there owns speaks))
 
   -- GET STATUS with COMM true: a STATUS with cause 30.
-  pub status-octets : (mode value : ℕ) (asker : Identity) → due_to Group identity x h s ≡ Steps (Received mode value (GetStatus asker)) → same x.state U0 ≡ false → x.parameters.comm ≡ true
+  pub status-octets : (mode value : ℕ) (asker : Option Run) → due_to Group identity x h s ≡ Steps (Received mode value (GetStatus asker)) → same x.state U0 ≡ false → x.parameters.comm ≡ true
       → step ≡ record { answer = 0; reason = 0; context = given value x; actions = 0; reply = sent group (given value x) (response x.state x.parameters) }
   unfolding reacted_to settled_by reply_of own_of row_of status_due request_due
   status-octets mode value asker due called speaks =

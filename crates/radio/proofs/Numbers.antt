@@ -23,8 +23,7 @@ use Rattle.message.specs.declared.Message.TheVariants.{
 }
 use Rattle.call.specs.declared.Event.{Event}
 use Rattle.call.specs.Events.{bare, carrying, seen_message, seen_of}
-use Rattle.radio.specs.declared.Told.{Told}
-use Rattle.radio.specs.declared.Told.TheVariants.{Is, NoEvent}
+use Rattle.std.specs.Prelude.{Option, Some, None}
 use Rattle.radio.specs.Step.{call_events, talk_events, events, event_of}
 
 -- ---- rows of a table
@@ -68,27 +67,27 @@ talk_numbered = (refl, (refl, (refl, (refl, (refl, tt)))))
 -- ---- from the number to the event
 
 -- The event of a number: seen, it is that number with the value and the reference where it carries them. No event: the number is 18, or neither 1 to 19 nor 32 to 36.
-abbrev pub IsOf : ℕ → ℕ → Reference → Told → Type 0
-IsOf n v r (Is event) = seen_of event ≡ cond (eqb n 1 || (eqb n 2 || eqb n 10)) (carrying n v r) (bare n)
-IsOf n v r NoEvent = (n ≡ 18 → ⊥) → (1 ≤ n → n ≤ 19 → ⊥) × (32 ≤ n → n ≤ 36 → ⊥)
+abbrev pub IsOf : ℕ → ℕ → Reference → Option Event → Type 0
+IsOf n v r (Some event) = seen_of event ≡ cond (eqb n 1 || (eqb n 2 || eqb n 10)) (carrying n v r) (bare n)
+IsOf n v r None = (n ≡ 18 → ⊥) → (1 ≤ n → n ≤ 19 → ⊥) × (32 ≤ n → n ≤ 36 → ⊥)
 
 pub event_of_number : (n v : ℕ) (r : Reference) → IsOf n v r (event_of n v r)
 unfolding event_of seen_of
 event_of_number n v r =
-    at_rows (IsOf n v r) n NoEvent (events v r) ((λ e. rw e), ((λ e. rw e), ((λ e. rw e), ((λ e. rw e), ((λ e. rw e), ((λ e. rw e), ((λ e. rw e), ((λ e. rw e), ((λ e. rw e), ((λ e. rw e), ((λ e. rw e), ((λ e. rw e), ((λ e. rw e), ((λ e. rw e), ((λ e. rw e), ((λ e. rw e), ((λ e. rw e), ((λ e h. absurd (h e)), ((λ e. rw e), ((λ e. rw e), ((λ e. rw e), ((λ e. rw e), ((λ e. rw e), ((λ e. rw e), tt))))))))))))))))))))))))
+    at_rows (IsOf n v r) n None (events v r) ((λ e. rw e), ((λ e. rw e), ((λ e. rw e), ((λ e. rw e), ((λ e. rw e), ((λ e. rw e), ((λ e. rw e), ((λ e. rw e), ((λ e. rw e), ((λ e. rw e), ((λ e. rw e), ((λ e. rw e), ((λ e. rw e), ((λ e. rw e), ((λ e. rw e), ((λ e. rw e), ((λ e. rw e), ((λ e h. absurd (h e)), ((λ e. rw e), ((λ e. rw e), ((λ e. rw e), ((λ e. rw e), ((λ e. rw e), ((λ e. rw e), tt))))))))))))))))))))))))
     (λ a h.
     let p = apart n (call_events v r) talk_events a in (
       (λ l m. let b : 20 ≤ n = beyond 1 n (call_events v r) (numbered v r) l p.0 in omega arith),
       (λ l m. let b : 37 ≤ n = beyond 32 n talk_events talk_numbered l p.1 in omega arith),
     ))
 
-pub no_other-number : (n v : ℕ) (r : Reference) → (1 ≤ n → n ≤ 19 → ⊥) → (32 ≤ n → n ≤ 36 → ⊥) → event_of n v r ≡ NoEvent
+pub no_other-number : (n v : ℕ) (r : Reference) → (1 ≤ n → n ≤ 19 → ⊥) → (32 ≤ n → n ≤ 36 → ⊥) → event_of n v r ≡ None
 unfolding event_of
 no_other-number n v r h k =
-    sym (other n NoEvent (events v r)
+    sym (other n None (events v r)
     (together n (call_events v r) talk_events (outside 1 n (call_events v r) (numbered v r) (λ a b. h a (omega arith))) (outside 32 n talk_events talk_numbered (λ a b. k a (omega arith)))))
 
-pub no_event_18 : (v : ℕ) (r : Reference) → event_of 18 v r ≡ NoEvent
+pub no_event_18 : (v : ℕ) (r : Reference) → event_of 18 v r ≡ None
 unfolding event_of
 no_event_18 v r = refl
 
@@ -106,7 +105,7 @@ message-number value (Termination cause) = refl
 message-number value (TerminationReject cause) = refl
 message-number value (TerminationRequest reference) = refl
 
-pub number_of_event : (event : Event) → ((seen_of event).number ≡ 18 → ⊥) → event_of (seen_of event).number (seen_of event).value (seen_of event).reference ≡ Is event
+pub number_of_event : (event : Event) → ((seen_of event).number ≡ 18 → ⊥) → event_of (seen_of event).number (seen_of event).value (seen_of event).reference ≡ Some event
 unfolding event_of seen_of
 number_of_event (Event.SetUp value reference) n = refl
 number_of_event (Event.ImmediateSetUp value reference) n = refl
@@ -134,12 +133,12 @@ number_of_event Event.DedicatedModeEntered n = refl
 number_of_event Event.TerminationDeleted n = refl
 
 -- No event of a number is a message received.
-abbrev pub NoMessage : Told → Type 0
-NoMessage (Is event) = eqb (seen_of event).number 18 ≡ false
-NoMessage NoEvent = Unit {0}
+abbrev pub NoMessage : Option Event → Type 0
+NoMessage (Some event) = eqb (seen_of event).number 18 ≡ false
+NoMessage None = Unit {0}
 
 pub no_message : (n v : ℕ) (r : Reference) → NoMessage (event_of n v r)
 unfolding event_of seen_of
 no_message n v r =
-    at_rows NoMessage n NoEvent (events v r) ((λ e. refl), ((λ e. refl), ((λ e. refl), ((λ e. refl), ((λ e. refl), ((λ e. refl), ((λ e. refl), ((λ e. refl), ((λ e. refl), ((λ e. refl), ((λ e. refl), ((λ e. refl), ((λ e. refl), ((λ e. refl), ((λ e. refl), ((λ e. refl), ((λ e. refl), ((λ e. tt), ((λ e. refl), ((λ e. refl), ((λ e. refl), ((λ e. refl), ((λ e. refl), ((λ e. refl), tt))))))))))))))))))))))))
+    at_rows NoMessage n None (events v r) ((λ e. refl), ((λ e. refl), ((λ e. refl), ((λ e. refl), ((λ e. refl), ((λ e. refl), ((λ e. refl), ((λ e. refl), ((λ e. refl), ((λ e. refl), ((λ e. refl), ((λ e. refl), ((λ e. refl), ((λ e. refl), ((λ e. refl), ((λ e. refl), ((λ e. refl), ((λ e. tt), ((λ e. refl), ((λ e. refl), ((λ e. refl), ((λ e. refl), ((λ e. refl), ((λ e. refl), tt))))))))))))))))))))))))
     (λ a. tt)

@@ -39,8 +39,7 @@ use Rattle.received.proofs.Rules.{fits-small, every_due}
 use Rattle.step_arguments.specs.Arguments.{out_of_range}
 use Rattle.radio.specs.declared.Happened.{Happened}
 use Rattle.radio.specs.declared.Stepped.{Stepped}
-use Rattle.radio.specs.declared.Told.{Told}
-use Rattle.radio.specs.declared.Told.TheVariants.{Is, NoEvent}
+use Rattle.std.specs.Prelude.{Option, Some, None}
 use Rattle.radio.specs.Step.{event_of, told_due, due_to, reacted_to, Reaction, refused, reacted, step_of, taken_of, refusal_of, shown}
 use Rattle.radio.proofs.Numbers.{IsOf, NoMessage, event_of_number, no_message}
 use Rattle.radio.proofs.Range.{InRange, in_range, value-most}
@@ -52,11 +51,11 @@ module _ (table : Table) where
     unfolding due_to
     by-message e p = rw (eq-eqb h.number 18 e) p
 
-    pub by-event : (h.number ≡ 18 → ⊥) → (event : Event) → event_of h.number h.value h.reference ≡ Is event → r ≡ Steps event → r ≡ due_to table identity x h s
+    pub by-event : (h.number ≡ 18 → ⊥) → (event : Event) → event_of h.number h.value h.reference ≡ Some event → r ≡ Steps event → r ≡ due_to table identity x h s
     unfolding due_to told_due
     by-event n event e p = rw (ne_eqb h.number 18 n, e) p
 
-    pub by-none : (h.number ≡ 18 → ⊥) → event_of h.number h.value h.reference ≡ NoEvent → r ≡ Refused → r ≡ due_to table identity x h s
+    pub by-none : (h.number ≡ 18 → ⊥) → event_of h.number h.value h.reference ≡ None → r ≡ Refused → r ≡ due_to table identity x h s
     unfolding due_to told_due
     by-none n e p = rw (ne_eqb h.number 18 n, e) p
 
@@ -70,9 +69,9 @@ module _ (table : Table) where
       given-or-none true k = k refl
       given-or-none false k = refl
 
-      go : (t : Told) → IsOf n v r t → DueFit (told_due t)
-      go (Is event) p = rw p (given-or-none (eqb n 1 || (eqb n 2 || eqb n 10)) h)
-      go NoEvent p = tt
+      go : (t : Option Event) → IsOf n v r t → DueFit (told_due t)
+      go (Some event) p = rw p (given-or-none (eqb n 1 || (eqb n 2 || eqb n 10)) h)
+      go None p = tt
 
   -- A step from a fit context ends in a fit one.
   pub react_fit : (identity : List ℕ) (x : Context) (h : Happened) (s : List ℕ) (key : ℕ) → fit_of table x ≡ true
@@ -118,11 +117,11 @@ module _ (table : Table) where
     plain_ordered TellStatus e p = absurd p
     plain_ordered SetParameters e p = absurd p
 
-    told_ordered : (t : Told) → NoMessage t → Ordered (settled table x (told_due t))
+    told_ordered : (t : Option Event) → NoMessage t → Ordered (settled table x (told_due t))
     unfolding settled_by told_due step_by no_step
-    told_ordered (Is event) h =
+    told_ordered (Some event) h =
         plain_ordered _ (seen_of event) (event-plain (fitness_of table) (greatest_actions table) (step_table table) (rows_sound table) x (seen_of event).number (seen_of event).code h)
-    told_ordered NoEvent h = tt
+    told_ordered None h = tt
 
   pub react_orderly : (identity : List ℕ) (x : Context) (h : Happened) (s : List ℕ) → fit_of table x ≡ true → Ordered x s (reacted_to table identity x h s)
   unfolding reacted_to due_to settled_by ignored

@@ -22,10 +22,10 @@ use Rattle.call.specs.Step.{no_step, carried_out, step_by}
 use Rattle.call.specs.Reasons.{reason_number}
 use Rattle.message.specs.declared.Own.{Own}
 use Rattle.received.specs.Ignored.{holds_of, in_order, first_in}
-use Rattle.received.proofs.Ignored.{None, given, only, reason-first}
+use Rattle.received.proofs.Ignored.{NoneHolds, given, only, reason-first}
 use Rattle.radio.specs.declared.Happened.{Happened}
-use Rattle.radio.specs.declared.Told.{Told}
-use Rattle.radio.specs.declared.Told.TheVariants.{Is, NoEvent}
+use Rattle.std.specs.Prelude.{Option, Some, None}
+use Rattle.call.specs.declared.Event.{Event}
 use Rattle.radio.specs.Step.{event_of, told_due, due_to, reacted_to, refusal_of, step_of}
 use Rattle.radio.proofs.Numbers.{NoMessage, no_message}
 use Rattle.radio.proofs.Reacting.{of_step}
@@ -42,10 +42,10 @@ module _ (table : Table) where
   plain-reason x TellStatus e p = absurd p
   plain-reason x SetParameters e p = absurd p
 
-  told-reason : (x : Context) (t : Told) → NoMessage t → (settled table x (told_due t)).reason ≡ 0
+  told-reason : (x : Context) (t : Option Event) → NoMessage t → (settled table x (told_due t)).reason ≡ 0
   unfolding settled_by told_due step_by no_step
-  told-reason x (Is event) h = plain-reason x _ (seen_of event) (event-plain (fitness_of table) (greatest_actions table) (step_table table) (rows_sound table) x (seen_of event).number (seen_of event).code h)
-  told-reason x NoEvent h = refl
+  told-reason x (Some event) h = plain-reason x _ (seen_of event) (event-plain (fitness_of table) (greatest_actions table) (step_table table) (rows_sound table) x (seen_of event).number (seen_of event).code h)
+  told-reason x None h = refl
 
   pub event-reason : (own : Own) (identity : List ℕ) (room : ℕ) (x : Context) (h : Happened) (s : List ℕ) → (h.number ≡ 18 → ⊥) → (step_of table own identity room x h s).reason ≡ 0
   unfolding reacted_to due_to
@@ -65,7 +65,7 @@ module _ (table : Table) where
     step-reason = rw (free, eq-eqb h.number 18 message) (reason-first table x identity h.mode s)
 
     -- A reason whose condition holds, and that of none before it, is given,
-    pub holding_given : (before after : List Reason) (reason : Reason) → before ++ (reason ∷ after) ≡ in_order → None holds before → holds reason ≡ true
+    pub holding_given : (before after : List Reason) (reason : Reason) → before ++ (reason ∷ after) ≡ in_order → NoneHolds holds before → holds reason ≡ true
         → (step_of table own identity room x h s).reason ≡ reason_number reason
     holding_given before after reason order none e =
         step-reason ∙ ap (first_in holds) (sym order) ∙ given holds before after reason none e

@@ -1,12 +1,11 @@
 -- The messages of a reply: a step of answer 0 sends none, one, or two, one behind the other, and the length of the reply says which.
-use Rattle.std.specs.Prelude.{ℕ, ◌≡◌, List, [], ◌∷◌, ◌++◌, ◌⊎◌, length}
+use Rattle.std.specs.Prelude.{ℕ, ◌≡◌, List, [], ◌∷◌, ◌++◌, ◌⊎◌, length, Some}
 use Rattle.codes.specs.declared.state.State.{State}
 use Rattle.codes.specs.declared.attributes.Parameters.{Parameters}
 use Rattle.codes.specs.declared.protocol.Protocol.{Protocol}
 use Rattle.codes.specs.CallStates.{call_state_code}
 use Rattle.codes.specs.Attributes.{attributes_of}
 use Rattle.codes.specs.MessageTypes.{SETUP, TERMINATION-REQUEST, STATUS}
-use Rattle.message.specs.declared.Half.TheVariants.{Present}
 use Rattle.message.specs.Content.{Content, status}
 use Rattle.message.specs.Tables.{type_of}
 use Rattle.context.specs.declared.Context.{Context}
@@ -22,7 +21,7 @@ Pair first second = ((type_of first ≡ SETUP) × (type_of second ≡ STATUS)) �
 
 -- A STATUS with cause 30, "Response to GET STATUS", that tells a state and parameters.
 abbrev pub response : State → Parameters → Content
-response state parameters = status (cause_octet 30 ∷ []) (Present (call_state_code state)) (Present (attributes_of parameters))
+response state parameters = status (cause_octet 30 ∷ []) (Some (call_state_code state)) (Some (attributes_of parameters))
 
 -- Two messages, one behind the other; each has six octets.
 pub record Two (protocol : Protocol) (x : Context) (reply : List ℕ) : Type 0 where

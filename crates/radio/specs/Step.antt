@@ -1,5 +1,5 @@
 -- Document 01, "Answer numbers": the step as the host has it, its tests in their order, and what it answers and writes.
-use Rattle.std.specs.Prelude.{ℕ, List, [], ◌∷◌, ◌++◌, cond, not, length, eqb}
+use Rattle.std.specs.Prelude.{ℕ, List, [], ◌∷◌, ◌++◌, cond, not, length, eqb, Option, Some, None}
 use Rattle.octets.specs.Rows.{rows}
 use Rattle.octets.specs.declared.Reference.{Reference}
 use Rattle.codes.specs.declared.protocol.Protocol.{Protocol}
@@ -41,54 +41,53 @@ use Rattle.reply.specs.Reply.{reply_of, put_all}
 use Rattle.step_arguments.specs.Arguments.{argument_refusal}
 use Rattle.radio.specs.declared.Happened.{Happened}
 use Rattle.radio.specs.declared.Stepped.{Stepped}
-use Rattle.radio.specs.declared.Told.{Told}
-use Rattle.radio.specs.declared.Told.TheVariants.{Is, NoEvent}
+use Rattle.call.specs.declared.Event.{Event}
 use Rattle.received.specs.Due.{due_of}
 
 -- Event numbers. 18, message received, goes by "Received messages".
-abbrev pub call_events : ℕ → Reference → List (ℕ × Told)
+abbrev pub call_events : ℕ → Reference → List (ℕ × Option Event)
 call_events value reference =
-    (1, Is (SetUp value reference)) ∷  -- set-up request
-    (2, Is (ImmediateSetUp value reference)) ∷  -- immediate set-up request
-    (3, Is Join) ∷  -- join
-    (4, Is Terminate) ∷  -- terminate
-    (5, Is Release) ∷  -- release
-    (6, Is Established) ∷  -- MM connection established
-    (7, Is EstablishmentFailed) ∷  -- MM establishment failed
-    (8, Is LinkFailure) ∷  -- radio link failure
-    (9, Is AbortDetected) ∷  -- abort or release detected
-    (10, Is (Notified value reference)) ∷  -- broadcast notified
-    (11, Is ReceiveModeEntered) ∷  -- group receive mode entered
-    (12, Is NoChannel) ∷  -- no channel
-    (13, Is ChannelAvailable) ∷  -- channel available
-    (14, Is MmEstExpired) ∷  -- expiry of T_MM-est
-    (15, Is TermExpired) ∷  -- expiry of T_term
-    (16, Is ConnReqExpired) ∷  -- expiry of T_conn req
-    (17, Is NoChannelExpired) ∷  -- expiry of T_no channel
-    (18, NoEvent) ∷  -- message received
-    (19, Is PresExpired) ∷  -- expiry of T_pres
+    (1, Some (SetUp value reference)) ∷  -- set-up request
+    (2, Some (ImmediateSetUp value reference)) ∷  -- immediate set-up request
+    (3, Some Join) ∷  -- join
+    (4, Some Terminate) ∷  -- terminate
+    (5, Some Release) ∷  -- release
+    (6, Some Established) ∷  -- MM connection established
+    (7, Some EstablishmentFailed) ∷  -- MM establishment failed
+    (8, Some LinkFailure) ∷  -- radio link failure
+    (9, Some AbortDetected) ∷  -- abort or release detected
+    (10, Some (Notified value reference)) ∷  -- broadcast notified
+    (11, Some ReceiveModeEntered) ∷  -- group receive mode entered
+    (12, Some NoChannel) ∷  -- no channel
+    (13, Some ChannelAvailable) ∷  -- channel available
+    (14, Some MmEstExpired) ∷  -- expiry of T_MM-est
+    (15, Some TermExpired) ∷  -- expiry of T_term
+    (16, Some ConnReqExpired) ∷  -- expiry of T_conn req
+    (17, Some NoChannelExpired) ∷  -- expiry of T_no channel
+    (18, None) ∷  -- message received
+    (19, Some PresExpired) ∷  -- expiry of T_pres
     []
 
 -- A group call has five more, from 32 on.
-abbrev pub talk_events : List (ℕ × Told)
+abbrev pub talk_events : List (ℕ × Option Event)
 talk_events =
-    (32, Is ReceiveModeRequested) ∷  -- request receive mode: stop talking
-    (33, Is TalkRequested) ∷  -- request talk: the uplink
-    (34, Is TransmitModeEntered) ∷  -- group transmit mode entered
-    (35, Is DedicatedModeEntered) ∷  -- dedicated mode entered
-    (36, Is TerminationDeleted) ∷  -- delete the pending termination request
+    (32, Some ReceiveModeRequested) ∷  -- request receive mode: stop talking
+    (33, Some TalkRequested) ∷  -- request talk: the uplink
+    (34, Some TransmitModeEntered) ∷  -- group transmit mode entered
+    (35, Some DedicatedModeEntered) ∷  -- dedicated mode entered
+    (36, Some TerminationDeleted) ∷  -- delete the pending termination request
     []
 
-abbrev pub events : ℕ → Reference → List (ℕ × Told)
+abbrev pub events : ℕ → Reference → List (ℕ × Option Event)
 events value reference = call_events value reference ++ talk_events
 
-unfoldable pub event_of : ℕ → ℕ → Reference → Told
-event_of number value reference = rows number NoEvent (events value reference)
+unfoldable pub event_of : ℕ → ℕ → Reference → Option Event
+event_of number value reference = rows number None (events value reference)
 
 -- The event of a number is due; a number without an event comes to no step. (It is refused before.)
-unfoldable pub told_due : Told → Due
-told_due (Is event) = Steps event
-told_due NoEvent = Refused
+unfoldable pub told_due : Option Event → Due
+told_due (Some event) = Steps event
+told_due None = Refused
 
 -- What is due where an event happens: a message goes by "Received messages", any other event by its number.
 unfoldable pub due_to : Table → List ℕ → Context → Happened → List ℕ → Due

@@ -41,43 +41,36 @@ pub struct Stepped {
     pub outcome: Outcome,
 }
 
-// The event of a number.
-#[derive(Clone, Copy)]
-pub enum Told {
-    Is(Event),
-    NoEvent,
-}
-
 // The event of a number. 18, a message received, goes by "Received messages".
-fn event_of(number: u32, value: u8, reference: Reference) -> Told
+fn event_of(number: u32, value: u8, reference: Reference) -> Option<Event>
     ensures { result ≡ event_of number value reference }
 {
     match number {
-        event::SET_UP => Told::Is(Event::SetUp(value, reference)),
-        event::IMMEDIATE_SET_UP => Told::Is(Event::ImmediateSetUp(value, reference)),
-        event::JOIN => Told::Is(Event::Join),
-        event::TERMINATE => Told::Is(Event::Terminate),
-        event::RELEASE => Told::Is(Event::Release),
-        event::MM_ESTABLISHED => Told::Is(Event::Established),
-        event::MM_FAILED => Told::Is(Event::EstablishmentFailed),
-        event::RADIO_LINK_FAILURE => Told::Is(Event::LinkFailure),
-        event::ABORT_OR_RELEASE => Told::Is(Event::AbortDetected),
-        event::NOTIFIED => Told::Is(Event::Notified(value, reference)),
-        event::GROUP_RECEIVE => Told::Is(Event::ReceiveModeEntered),
-        event::NO_CHANNEL => Told::Is(Event::NoChannel),
-        event::CHANNEL_AVAILABLE => Told::Is(Event::ChannelAvailable),
-        event::MM_EST_EXPIRED => Told::Is(Event::MmEstExpired),
-        event::TERM_EXPIRED => Told::Is(Event::TermExpired),
-        event::CONN_REQ_EXPIRED => Told::Is(Event::ConnReqExpired),
-        event::NO_CHANNEL_EXPIRED => Told::Is(Event::NoChannelExpired),
-        event::RECEIVED => Told::NoEvent,
-        event::PRES_EXPIRED => Told::Is(Event::PresExpired),
-        event::RECEIVE_MODE => Told::Is(Event::ReceiveModeRequested),
-        event::TALK => Told::Is(Event::TalkRequested),
-        event::GROUP_TRANSMIT => Told::Is(Event::TransmitModeEntered),
-        event::DEDICATED => Told::Is(Event::DedicatedModeEntered),
-        event::DELETE_REQUEST => Told::Is(Event::TerminationDeleted),
-        _ => Told::NoEvent,
+        event::SET_UP => Some(Event::SetUp(value, reference)),
+        event::IMMEDIATE_SET_UP => Some(Event::ImmediateSetUp(value, reference)),
+        event::JOIN => Some(Event::Join),
+        event::TERMINATE => Some(Event::Terminate),
+        event::RELEASE => Some(Event::Release),
+        event::MM_ESTABLISHED => Some(Event::Established),
+        event::MM_FAILED => Some(Event::EstablishmentFailed),
+        event::RADIO_LINK_FAILURE => Some(Event::LinkFailure),
+        event::ABORT_OR_RELEASE => Some(Event::AbortDetected),
+        event::NOTIFIED => Some(Event::Notified(value, reference)),
+        event::GROUP_RECEIVE => Some(Event::ReceiveModeEntered),
+        event::NO_CHANNEL => Some(Event::NoChannel),
+        event::CHANNEL_AVAILABLE => Some(Event::ChannelAvailable),
+        event::MM_EST_EXPIRED => Some(Event::MmEstExpired),
+        event::TERM_EXPIRED => Some(Event::TermExpired),
+        event::CONN_REQ_EXPIRED => Some(Event::ConnReqExpired),
+        event::NO_CHANNEL_EXPIRED => Some(Event::NoChannelExpired),
+        event::RECEIVED => None,
+        event::PRES_EXPIRED => Some(Event::PresExpired),
+        event::RECEIVE_MODE => Some(Event::ReceiveModeRequested),
+        event::TALK => Some(Event::TalkRequested),
+        event::GROUP_TRANSMIT => Some(Event::TransmitModeEntered),
+        event::DEDICATED => Some(Event::DedicatedModeEntered),
+        event::DELETE_REQUEST => Some(Event::TerminationDeleted),
+        _ => None,
     }
 }
 
@@ -90,8 +83,8 @@ fn due_to(table: Table, context: Context, identity: &[u8], happened: Happened, o
         return received::listen(table, context, identity, happened.mode, octets);
     }
     match event_of(happened.number, happened.value, reference) {
-        Told::Is(event) => Due::Steps(event),
-        Told::NoEvent => Due::Refused,
+        Some(event) => Due::Steps(event),
+        None => Due::Refused,
     }
 }
 

@@ -13,21 +13,21 @@ use Rattle.codes.specs.declared.state.State.TheVariants.{U0}
 use Rattle.codes.specs.declared.protocol.Protocol.{Protocol}
 use Rattle.codes.specs.declared.protocol.Protocol.TheVariants.{Broadcast, Group}
 use Rattle.octets.specs.declared.Run.{Run}
-use Rattle.element.specs.declared.Found.{Found}
-use Rattle.element.specs.declared.Found.TheVariants.{At, Nothing}
-use Rattle.element.specs.declared.Counted.{Counted}
-use Rattle.element.specs.declared.Counted.TheVariants.{Octets, CutShort as CountedShort, WrongLength as CountedWrong}
+use Rattle.std.specs.Prelude.{Option, Some, None, Result, Ok, Err}
+use Rattle.element.specs.declared.Miscount.{Miscount}
+use Rattle.element.specs.declared.Miscount.TheVariants.{CutShort as CountedShort, WrongLength as CountedWrong}
+use Rattle.message.specs.declared.Fault.{Fault}
+use Rattle.message.specs.declared.Reading.{Reading}
+use Rattle.message.specs.declared.Unread.{Unread}
+use Rattle.message.specs.declared.Unread.TheVariants.{TooLong, Unreadable}
 use Rattle.element.specs.Counted.{counted_at}
 use Rattle.element.specs.Elements.{element_from}
 use Rattle.message.specs.declared.Message.{Message}
-use Rattle.message.specs.declared.Body.{Body}
-use Rattle.message.specs.declared.Body.TheVariants.{Is, Wrong}
-use Rattle.message.specs.declared.Reading.{Reading}
-use Rattle.message.specs.declared.Reading.TheVariants.{Is as Reads, Unreadable, TooLong}
 use Rattle.message.specs.Answers.{fault_number}
 use Rattle.message.specs.Reading.{
   unless_known,
   whole_of,
+  miscounted,
   on_counted,
   connect_of,
   get_status_of,
@@ -58,28 +58,31 @@ use Rattle.transitions.proofs.Sound.{rows_sound}
 use Rattle.received.specs.Received.{cause_in, type_cause}
 use Rattle.received.proofs.Rules.{Ours}
 
-abbrev FourBody : Body → Type 0
-FourBody (Is message) = Unit {0}
-FourBody (Wrong fault) = fault_number fault ≡ 4
+abbrev FourBody : Result Message Fault → Type 0
+FourBody (Ok message) = Unit {0}
+FourBody (Err fault) = fault_number fault ≡ 4
 
 -- The message is read, or its fault is the fourth.
-abbrev pub Four : Reading → Type 0
-Four (Reads flag value message) = Unit {0}
-Four (Unreadable fault) = fault_number fault ≡ 4
-Four TooLong = ⊥
+abbrev pub Four : Result Reading Unread → Type 0
+Four (Ok read) = Unit {0}
+Four (Err (Unreadable fault)) = fault_number fault ≡ 4
+Four (Err TooLong) = ⊥
 
-known : (m : Message) (found : Found) → FourBody (unless_known m found)
-known m Nothing = tt
-known m (At place identifier) = refl
+known : (m : Message) (found : Option (ℕ × ℕ)) → FourBody (unless_known m found)
+known m None = tt
+known m (Some (place, identifier)) = refl
 
 whole : (s : List ℕ) (end : ℕ) (m : Message) → FourBody (whole_of s end m)
 unfolding whole_of
 whole s end m = at_cond FourBody (leb end (length s)) _ _ (λ e. known m (element_from s end 0 15)) (λ e. refl)
 
-counted : (at : ℕ) (go : Run → Body) (c : Counted) → ((run : Run) → FourBody (go run)) → FourBody (on_counted at go c)
-counted at go (Octets run) w = w run
-counted at go CountedShort w = refl
-counted at go CountedWrong w = refl
+miscounted-four : (at : ℕ) (miscount : Miscount) → fault_number (miscounted at miscount) ≡ 4
+miscounted-four at CountedShort = refl
+miscounted-four at CountedWrong = refl
+
+counted : (at : ℕ) (go : Run → Result Message Fault) (c : Result Run Miscount) → ((run : Run) → FourBody (go run)) → FourBody (on_counted at go c)
+counted at go (Ok run) w = w run
+counted at go (Err miscount) w = miscounted-four at miscount
 
 immediate : (s : List ℕ) → FourBody (immediate_setup_of s)
 unfolding immediate_setup_of immediate_identity_of
@@ -128,9 +131,9 @@ module _ (table : Table) (x : Context) (s : List ℕ) (ours : Ours (protocol_of 
       apart (type_cause table x (get_or s 1 0))
       (rw (low, unknown table (protocol_of table) s x (get_or s 1 0 % 64) ours.calling a)) none
 
-  read_as_lem : (flag : Bool) (value : ℕ) (b : Body) → FourBody b → Four (read_as flag value b)
-  read_as_lem flag value (Is message) p = p
-  read_as_lem flag value (Wrong fault) p = p
+  read_as_lem : (flag : Bool) (value : ℕ) (b : Result Message Fault) → FourBody b → Four (read_as flag value b)
+  read_as_lem flag value (Ok message) p = p
+  read_as_lem flag value (Err fault) p = p
 
   pub fault-four : length s ≤ 251 → Four (read_message (protocol_of table) s)
   unfolding read_message body_of

@@ -9,8 +9,9 @@ use lib.ListN.{length, get_or}
 use Rattle.codes.specs.declared.state.State.TheVariants.{U0}
 use Rattle.codes.specs.Protocol.{discriminator}
 use Rattle.codes.specs.Attributes.{parameters_of}
+use Rattle.std.specs.Prelude.{Result, Ok, Err}
 use Rattle.message.specs.declared.Reading.{Reading}
-use Rattle.message.specs.declared.Reading.TheVariants.{Is, Unreadable, TooLong}
+use Rattle.message.specs.declared.Unread.{Unread}
 use Rattle.message.specs.Reading.{read_message}
 use Rattle.version.specs.declared.Table.{Table}
 use Rattle.version.specs.Version.{greatest_actions, protocol_of}
@@ -43,12 +44,12 @@ split false yes_way no_way = no_way refl
 
 module _ (holds : Reason → Bool) where
   -- No reason of a list holds.
-  abbrev pub None : List Reason → Type 0
-  None [] = Unit {0}
-  None (reason ∷ more) = (holds reason ≡ false) × None more
+  abbrev pub NoneHolds : List Reason → Type 0
+  NoneHolds [] = Unit {0}
+  NoneHolds (reason ∷ more) = (holds reason ≡ false) × NoneHolds more
 
   -- A reason that holds where none before it does is given,
-  pub given : (before after : List Reason) (reason : Reason) → None before → holds reason ≡ true → first_in holds (before ++ (reason ∷ after)) ≡ reason_number reason
+  pub given : (before after : List Reason) (reason : Reason) → NoneHolds before → holds reason ≡ true → first_in holds (before ++ (reason ∷ after)) ≡ reason_number reason
   unfolding first_in
   given [] after reason none e = rw e
   given (first ∷ before) after reason none e = rw none.0 (given before after reason none.1 e)
@@ -88,17 +89,16 @@ module _ (table : Table) (x : Context) where
       (λ f. rw f (reported_reason 98))
 
   -- Rules 3 to 6.
-  read-reason : (identity : List ℕ) (mode : ℕ) (s : List ℕ) → same x.state U0 ≡ false → (r : Reading)
+  read-reason : (identity : List ℕ) (mode : ℕ) (s : List ℕ) → same x.state U0 ≡ false → (r : Result Reading Unread)
       → (settled table x (reading_due (understood_due (protocol_of table) identity mode s) r)).reason
       ≡ cond (names_other identity mode s r) (reason_number OtherIdentity) (unsaid (wants_status table x r))
   unfolding settled_by reading_due understood_due names_other wants_status ignored step_by seen_of
-  read-reason identity mode s calling (Is flag value m) =
-      split (eqb mode 1 && is_other identity s (asked_of m).identity) (λ e. rw e)
+  read-reason identity mode s calling (Ok read) =
+      split (eqb mode 1 && is_other identity s (asked_of read.message).identity) (λ e. rw e)
       (λ e. rw e
-      (split (must_name_us (protocol_of table) && (asked_of m).disowns) (λ d. rw d (reported_reason 95))
-      (λ d. rw d (carried-reason _ (seen_message value m) (decided_listens (fitness_of table) (greatest_actions table) (step_table table) (rows_sound table) x calling (seen_message value m).number (seen_message value m).code)))))
-  read-reason identity mode s calling (Unreadable fault) = reported_reason 96
-  read-reason identity mode s calling TooLong = reported_reason 96
+      (split (must_name_us (protocol_of table) && (asked_of read.message).disowns) (λ d. rw d (reported_reason 95))
+      (λ d. rw d (carried-reason _ (seen_message read.value read.message) (decided_listens (fitness_of table) (greatest_actions table) (step_table table) (rows_sound table) x calling (seen_message read.value read.message).number (seen_message read.value read.message).code)))))
+  read-reason identity mode s calling (Err unread) = reported_reason 96
 
   -- All six: the reason is the first whose condition holds.
   pub reason-first : (identity : List ℕ) (mode : ℕ) (s : List ℕ) → (settled table x (due_of table identity x mode s)).reason ≡ first_in (holds_of table identity x mode s) in_order

@@ -12,15 +12,13 @@ use Rattle.codes.specs.declared.state.State.TheVariants.{U0}
 use Rattle.codes.specs.declared.protocol.Protocol.{Protocol}
 use Rattle.codes.specs.Protocol.{discriminator}
 use Rattle.octets.specs.declared.Run.{Run}
-use Rattle.message.specs.declared.Identity.{Identity}
-use Rattle.message.specs.declared.Identity.TheVariants.{Present}
+use Rattle.std.specs.Prelude.{Option, Some, Result, Ok, Err}
+use Rattle.message.specs.declared.Reading.{Reading}
+use Rattle.message.specs.declared.Unread.{Unread}
 use Rattle.message.specs.declared.Message.{Message}
 use Rattle.message.specs.declared.Fault.{Fault}
-use Rattle.message.specs.declared.Reading.{Reading}
-use Rattle.message.specs.declared.Reading.TheVariants.{Is, Unreadable, TooLong}
 use Rattle.message.specs.Content.{run_octets}
 use Rattle.message.specs.Tables.{transaction}
-use Rattle.message.specs.declared.Body.{Body}
 use Rattle.message.specs.Reading.{body_of, read_as, read_message}
 use Rattle.version.specs.declared.Table.{Table}
 use Rattle.version.specs.Version.{protocol_of}
@@ -36,11 +34,11 @@ use Rattle.received.specs.Received.{transaction_is, awaited_is, transaction_fits
 use Rattle.received.specs.Due.{understood_due, reading_due, due_of}
 
 -- An identity that is named.
-pub run-within : (s : List ℕ) (named : Identity) (run : Run) → named ≡ Present run → Within s named → run.start + run.count ≤ length s
+pub run-within : (s : List ℕ) (named : Option Run) (run : Run) → named ≡ Some run → Within s named → run.start + run.count ≤ length s
 unfolding Within
 run-within s named run e w = rw e at w
 
-pub is_named : (ours s : List ℕ) (named : Identity) (run : Run) (r : Bool) → named ≡ Present run → r ≡ same_octets (run_octets s run) ours → not r ≡ is_other ours s named
+pub is_named : (ours s : List ℕ) (named : Option Run) (run : Run) (r : Bool) → named ≡ Some run → r ≡ same_octets (run_octets s run) ours → not r ≡ is_other ours s named
 unfolding is_other
 is_named ours s named run r e p = rw (e, p)
 
@@ -82,19 +80,16 @@ module _ (table : Table) (identity : List ℕ) (x : Context) (mode : ℕ) (s : L
   due_typed cause e n = rw (ours.calling, ours.two, ours.discriminated, ours.transacted, ← e, ne_eqb cause 0 n)
 
   module _ (none : type_cause table x (get_or s 1 0) ≡ 0) (r : Due) where
-    pub due_read : (flag : Bool) (value : ℕ) (m : Message) (protocol : Protocol) → protocol ≡ protocol_of table → read_message (protocol_of table) s ≡ Is flag value m
-        → r ≡ understood_due protocol identity mode s value m → r ≡ due_of table identity x mode s
+    pub due_read : (read : Reading) (protocol : Protocol) → protocol ≡ protocol_of table → read_message (protocol_of table) s ≡ Ok read
+        → r ≡ understood_due protocol identity mode s read.value read.message → r ≡ due_of table identity x mode s
     unfolding due_of reading_due
-    due_read flag value m protocol q e p =
-        rw (ours.calling, ours.two, ours.discriminated, ours.transacted, none, e) (subst (λ (a : Protocol). r ≡ understood_due a identity mode s value m) q p)
+    due_read read protocol q e p =
+        rw (ours.calling, ours.two, ours.discriminated, ours.transacted, none, e)
+        (subst (λ (a : Protocol). r ≡ understood_due a identity mode s read.value read.message) q p)
 
-    pub due_wrong : (fault : Fault) → read_message (protocol_of table) s ≡ Unreadable fault → r ≡ Reported 96 → r ≡ due_of table identity x mode s
+    pub due_unread : (unread : Unread) → read_message (protocol_of table) s ≡ Err unread → r ≡ Reported 96 → r ≡ due_of table identity x mode s
     unfolding due_of reading_due
-    due_wrong fault e p = rw (ours.calling, ours.two, ours.discriminated, ours.transacted, none, e) p
-
-    pub due_long : read_message (protocol_of table) s ≡ TooLong → r ≡ Reported 96 → r ≡ due_of table identity x mode s
-    unfolding due_of reading_due
-    due_long e p = rw (ours.calling, ours.two, ours.discriminated, ours.transacted, none, e) p
+    due_unread unread e p = rw (ours.calling, ours.two, ours.discriminated, ours.transacted, none, e) p
 
 -- What holds of "ignored", of each report and of the step of each message holds of what is due to any octets. A message that is reported or stepped with is of the
 -- context's transaction, and its value is that of its first octet.
@@ -108,15 +103,15 @@ module _ (P : Due → Type 0) (ignored : (reason : Reason) → P (Ignored reason
         at_cond P (eqb mode 1 && is_other identity s (asked_of m).identity) _ _ (λ e. ignored _)
         (λ e. at_cond P (must_name_us protocol && (asked_of m).disowns) _ _ (λ e. reported ours 95) (λ e. steps ours mode m))
 
-    every_body : (protocol : Protocol) (identity : List ℕ) (mode : ℕ) (flag : Bool) (b : Body) → P (reading_due (understood_due protocol identity mode s) (read_as flag (get_or s 0 0 / 16 % 8) b))
+    every_body : (protocol : Protocol) (identity : List ℕ) (mode : ℕ) (flag : Bool) (b : Result Message Fault) → P (reading_due (understood_due protocol identity mode s) (read_as flag (get_or s 0 0 / 16 % 8) b))
     unfolding reading_due
-    every_body protocol identity mode flag (Body.Is m) = every_understood protocol identity mode m
-    every_body protocol identity mode flag (Body.Wrong fault) = reported ours 96
+    every_body protocol identity mode flag (Ok m) = every_understood protocol identity mode m
+    every_body protocol identity mode flag (Err fault) = reported ours 96
 
     every-read : (protocol : Protocol) (identity : List ℕ) (mode : ℕ) → P (reading_due (understood_due protocol identity mode s) (read_message protocol s))
     unfolding read_message reading_due
     every-read protocol identity mode =
-        let go : Reading → Due = reading_due (understood_due protocol identity mode s) in
+        let go : Result Reading Unread → Due = reading_due (understood_due protocol identity mode s) in
         at_cond (λ r. P (go r)) (ltb 251 (length s)) _ _ (λ e. reported ours 96)
         (λ e. at_cond (λ r. P (go r)) (ltb (length s) 2) _ _ (λ e. reported ours 96)
         (λ e. at_cond (λ r. P (go r)) (eqb (get_or s 0 0 % 16) (discriminator protocol)) _ _

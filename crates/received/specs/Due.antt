@@ -1,11 +1,11 @@
 -- Document 01, "Received messages, in this order": the six rules, as what is due to a message, and why where it is ignored. `call/specs/Due: settled` says what each comes to.
-use Rattle.std.specs.Prelude.{ℕ, ◌%◌, List, cond, not, ◌&&◌, length, get_or, eqb, ltb}
+use Rattle.std.specs.Prelude.{ℕ, ◌%◌, List, cond, not, ◌&&◌, length, get_or, eqb, ltb, Result, Ok, Err}
 use Rattle.codes.specs.declared.state.State.TheVariants.{U0}
 use Rattle.codes.specs.declared.protocol.Protocol.{Protocol}
 use Rattle.codes.specs.Protocol.{discriminator}
 use Rattle.message.specs.declared.Message.{Message}
 use Rattle.message.specs.declared.Reading.{Reading}
-use Rattle.message.specs.declared.Reading.TheVariants.{Is, Unreadable, TooLong}
+use Rattle.message.specs.declared.Unread.{Unread}
 use Rattle.message.specs.Reading.{read_message}
 use Rattle.version.specs.declared.Table.{Table}
 use Rattle.version.specs.Version.{protocol_of}
@@ -29,10 +29,9 @@ understood_due protocol identity mode s value message =
 
 -- 3. Mandatory part wrong, or an unknown element whose identifier has bits 8 to 5 all zero: reported as "invalid mandatory information", 96.
 -- (After rules 1 and 2 a message that can't be read has no other fault.)
-unfoldable pub reading_due : (ℕ → Message → Due) → Reading → Due
-reading_due go (Is flag value message) = go value message
-reading_due go (Unreadable fault) = Reported 96
-reading_due go TooLong = Reported 96
+unfoldable pub reading_due : (ℕ → Message → Due) → Result Reading Unread → Due
+reading_due go (Ok read) = go read.value read.message
+reading_due go (Err unread) = Reported 96
 
 -- The six rules in their order.
 unfoldable pub due_of : Table → List ℕ → Context → ℕ → List ℕ → Due

@@ -1,11 +1,11 @@
 -- When a message is ignored for which reason: the conditions, one by one. The rules name the reason where they stand (`due_of`, and `ignored` in the step); this
 -- says the same the other way round, from the reason. `received/proofs/Ignored` proves that both agree.
-use Rattle.std.specs.Prelude.{ℕ, ◌%◌, List, [], ◌∷◌, Bool, true, false, cond, not, ◌&&◌, ◌||◌, length, get_or, eqb, ltb}
+use Rattle.std.specs.Prelude.{ℕ, ◌%◌, List, [], ◌∷◌, Bool, true, false, cond, not, ◌&&◌, ◌||◌, length, get_or, eqb, ltb, Result, Ok, Err}
 use Rattle.codes.specs.declared.state.State.TheVariants.{U0}
 use Rattle.codes.specs.Protocol.{discriminator}
 use Rattle.codes.specs.Attributes.{parameters_of}
 use Rattle.message.specs.declared.Reading.{Reading}
-use Rattle.message.specs.declared.Reading.TheVariants.{Is, Unreadable, TooLong}
+use Rattle.message.specs.declared.Unread.{Unread}
 use Rattle.message.specs.Reading.{read_message}
 use Rattle.version.specs.declared.Table.{Table}
 use Rattle.version.specs.Version.{protocol_of}
@@ -23,10 +23,9 @@ use Rattle.call.specs.Reasons.{reason_number}
 use Rattle.received.specs.Received.{transaction_fits, type_cause, asked_of, must_name_us, is_other}
 
 -- Rule 4: a message that can be read, in unacknowledged mode, with a mobile identity other than ours.
-unfoldable pub names_other : List ℕ → ℕ → List ℕ → Reading → Bool
-names_other identity mode s (Is flag value message) = eqb mode 1 && is_other identity s (asked_of message).identity
-names_other identity mode s (Unreadable fault) = false
-names_other identity mode s TooLong = false
+unfoldable pub names_other : List ℕ → ℕ → List ℕ → Result Reading Unread → Bool
+names_other identity mode s (Ok read) = eqb mode 1 && is_other identity s (asked_of read.message).identity
+names_other identity mode s (Err unread) = false
 
 -- What the table decides is done by a STATUS: a report, GET STATUS, a SET PARAMETER whose values are inconsistent.
 unfoldable pub tells_by : Table → Context → ℕ → Decision → Bool
@@ -38,11 +37,10 @@ tells_by table x attributes TellStatus = true
 tells_by table x attributes SetParameters = not (consistent table x.state (parameters_of attributes))
 
 -- A STATUS is due to a message: it can't be read (rule 3), is a CONNECT that doesn't name us (rule 5), or the table decides so.
-unfoldable pub wants_status : Table → Context → Reading → Bool
-wants_status table x (Is flag value message) =
-    let e : Seen = seen_message value message in (must_name_us (protocol_of table) && (asked_of message).disowns) || tells_by table x e.attributes (decided_of table x e.number e.code)
-wants_status table x (Unreadable fault) = true
-wants_status table x TooLong = true
+unfoldable pub wants_status : Table → Context → Result Reading Unread → Bool
+wants_status table x (Ok read) =
+    let e : Seen = seen_message read.value read.message in (must_name_us (protocol_of table) && (asked_of read.message).disowns) || tells_by table x e.attributes (decided_of table x e.number e.code)
+wants_status table x (Err unread) = true
 
 -- The condition of each reason.
 unfoldable pub holds_of : Table → List ℕ → Context → ℕ → List ℕ → Reason → Bool

@@ -1,9 +1,8 @@
 -- Document 01, "Received messages, in this order": what the rules ask of a message.
-use Rattle.std.specs.Prelude.{ℕ, ◌+◌, ◌/◌, ◌%◌, ◌≤◌, List, [], ◌∷◌, Bool, true, false, cond, not, ◌&&◌, length, eqb, leb}
+use Rattle.std.specs.Prelude.{ℕ, ◌+◌, ◌/◌, ◌%◌, ◌≤◌, List, [], ◌∷◌, Bool, true, false, cond, not, ◌&&◌, length, eqb, leb, Option, Some, None}
 use Rattle.codes.specs.declared.protocol.Protocol.{Protocol}
 use Rattle.codes.specs.declared.protocol.Protocol.TheVariants.{Broadcast, Group}
-use Rattle.message.specs.declared.Identity.{Identity}
-use Rattle.message.specs.declared.Identity.TheVariants.{Absent, Present}
+use Rattle.octets.specs.declared.Run.{Run}
 use Rattle.message.specs.declared.Message.{Message}
 use Rattle.message.specs.declared.Message.TheVariants.{
   Connect,
@@ -51,21 +50,21 @@ cause_in SetParameters = 0
 unfoldable pub type_cause : Table → Context → ℕ → ℕ
 type_cause table x kind = cond (leb 128 kind) 97 (cause_in (decided_of table x 18 (kind % 64)))
 
-abbrev asks : Identity → Bool → Asked
+abbrev asks : Option Run → Bool → Asked
 asks identity disowns = record { identity = identity; disowns = disowns }
 
 -- Rule 4: which mobile identity a message has. Only GET STATUS has one.
 -- Rule 5: whether it is a CONNECT that doesn't name us as originator.
 unfoldable pub asked_of : Message → Asked
-asked_of (Connect reference originator) = asks Absent (not (eqb originator 1))
+asked_of (Connect reference originator) = asks None (not (eqb originator 1))
 asked_of (GetStatus identity) = asks identity false
-asked_of (ImmediateSetup key classmark identity reference) = asks Absent false
-asked_of (SetParameter attributes) = asks Absent false
-asked_of (Setup reference) = asks Absent false
-asked_of (Status cause state attributes) = asks Absent false
-asked_of (Termination cause) = asks Absent false
-asked_of (TerminationReject cause) = asks Absent false
-asked_of (TerminationRequest reference) = asks Absent false
+asked_of (ImmediateSetup key classmark identity reference) = asks None false
+asked_of (SetParameter attributes) = asks None false
+asked_of (Setup reference) = asks None false
+asked_of (Status cause state attributes) = asks None false
+asked_of (Termination cause) = asks None false
+asked_of (TerminationReject cause) = asks None false
+asked_of (TerminationRequest reference) = asks None false
 
 -- In a broadcast call a CONNECT must name us. In a group call it says whether we are the originator.
 abbrev pub must_name_us : Protocol → Bool
@@ -80,11 +79,11 @@ same_octets (x ∷ xs) [] = false
 same_octets (x ∷ xs) (y ∷ ys) = eqb x y && same_octets xs ys
 
 -- A mobile identity other than ours.
-unfoldable pub is_other : List ℕ → List ℕ → Identity → Bool
-is_other ours s Absent = false
-is_other ours s (Present run) = not (same_octets (run_octets s run) ours)
+unfoldable pub is_other : List ℕ → List ℕ → Option Run → Bool
+is_other ours s None = false
+is_other ours s (Some run) = not (same_octets (run_octets s run) ours)
 
 -- The run of an identity lies within the octets.
-unfoldable pub Within : List ℕ → Identity → Type 0
-Within s Absent = Unit {0}
-Within s (Present run) = run.start + run.count ≤ length s
+unfoldable pub Within : List ℕ → Option Run → Type 0
+Within s None = Unit {0}
+Within s (Some run) = run.start + run.count ≤ length s

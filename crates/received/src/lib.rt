@@ -9,8 +9,9 @@ ghost use Rattle.received.specs.Due.{due_of, understood_due};
 use call::{Due, Event, Reason};
 use codes::cause;
 use codes::protocol::{Protocol, discriminator};
+use codes::state::State;
 use context::Context;
-use message::{Identity, Message, Reading};
+use message::Message;
 use octets::Run;
 use transitions::Decision;
 use version::Table;
@@ -98,7 +99,7 @@ fn is_same(octets: &[u8], run: Run, identity: &[u8]) -> bool
 // What rules 4 and 5 ask of a message: the mobile identity that it has, and whether it is a CONNECT that doesn't name us as originator.
 #[derive(Clone, Copy)]
 struct Asked {
-    identity: Identity,
+    identity: Option<Run>,
     disowns: bool,
 }
 
@@ -106,7 +107,7 @@ fn ask(message: Message) -> Asked
     ensures { result ≡ asked_of message }
 {
     let nothing = Asked {
-        identity: Identity::Absent,
+        identity: None,
         disowns: false,
     };
     match message {
@@ -114,7 +115,7 @@ fn ask(message: Message) -> Asked
             reference: _,
             originator,
         } => Asked {
-            identity: Identity::Absent,
+            identity: None,
             disowns: originator != 1,
         },
         Message::GetStatus { identity } => Asked {
@@ -141,13 +142,13 @@ fn ask(message: Message) -> Asked
 }
 
 // Whether an identity is other than ours.
-fn is_other(named: Identity, octets: &[u8], ours: &[u8]) -> bool
+fn is_other(named: Option<Run>, octets: &[u8], ours: &[u8]) -> bool
     requires { Within octets.now named }
     ensures { result ≡ is_other ours.now octets.now named }
 {
     match named {
-        Identity::Absent => false,
-        Identity::Present(run) => !is_same(octets, run, ours),
+        None => false,
+        Some(run) => !is_same(octets, run, ours),
     }
 }
 
@@ -180,8 +181,7 @@ fn understand(
 pub fn listen(table: Table, context: Context, identity: &[u8], mode: u8, octets: &[u8]) -> Due
     ensures { result ≡ due_of table identity.now context mode octets.now }
 {
-    let state = context.state;
-    if context::state_number(state) == 0 {
+    if context.state == State::U0 {
         return Due::Ignored(Reason::NoCall);
     }
     if octets.len() < 2 {
@@ -199,13 +199,8 @@ pub fn listen(table: Table, context: Context, identity: &[u8], mode: u8, octets:
     if cause != 0 {
         return Due::Reported(cause);
     }
-    match message::read(protocol, octets) {
-        Reading::Is {
-            flag: _,
-            value,
-            message,
-        } => understand(protocol, identity, mode, octets, value, message),
-        Reading::Unreadable(_) => Due::Reported(cause::INVALID_MANDATORY_INFORMATION),
-        Reading::TooLong => Due::Reported(cause::INVALID_MANDATORY_INFORMATION),
-    }
+    let Ok(read) = message::read(protocol, octets) else {
+        return Due::Reported(cause::INVALID_MANDATORY_INFORMATION);
+    };
+    understand(protocol, identity, mode, octets, read.value, read.message)
 }

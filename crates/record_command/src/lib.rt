@@ -6,27 +6,15 @@ ghost use Rattle.std.specs.Prelude.{◌≤◌, length};
 use fields::malformed;
 use fields::words::{number_word, octets_word, reference_word};
 use log_entry::Reference;
-use recorder::Recorded;
+use recorder::Refusal;
 use recorder_size::{Claims, TimedEvent};
 use saying::{say, say_decimal, say_hex};
 use text::output::{Output, put};
-use text::words::{Words, finished, part};
+use text::words::{finished, part};
 use version::Table;
 
 // The greatest number that a word may have.
 const MOST: u64 = 4294967295;
-
-#[derive(Clone, Copy)]
-struct HappenedWord {
-    happened: TimedEvent,
-    words: Words,
-}
-
-#[derive(Clone, Copy)]
-struct ClaimsWord {
-    claims: Claims,
-    words: Words,
-}
 
 // The octets of a message or a reply, as places behind the log's.
 #[derive(Clone, Copy)]
@@ -35,100 +23,98 @@ struct Place {
     count: usize,
 }
 
+// What a line tells. The log is the first `size` of the lent octets.
+#[derive(Clone, Copy)]
+struct Told {
+    size: usize,
+    used: usize,
+    happened: TimedEvent,
+    heard: Place,
+    claims: Claims,
+    sent: Place,
+}
+
 // DELTA EVENT ETV EREF MODE.
-fn happened_word(line: &[u8], words: Words) -> HappenedWord {
-    let delta = number_word(line, words, MOST);
-    let delta_words = delta.words;
-    let event = number_word(line, delta_words, MOST);
-    let event_words = event.words;
-    let value = number_word(line, event_words, MOST);
-    let value_words = value.words;
-    let call = reference_word(line, value_words);
-    let call_words = call.words;
-    let reference = call.reference;
-    let mode = number_word(line, call_words, MOST);
-    let next = mode.words;
+fn happened_word(line: &[u8], at: usize) -> Option<(TimedEvent, usize)> {
+    let (delta, at) = number_word(line, at, MOST)?;
+    let (event, at) = number_word(line, at, MOST)?;
+    let (value, at) = number_word(line, at, MOST)?;
+    let (reference, at) = reference_word(line, at)?;
+    let (mode, at) = number_word(line, at, MOST)?;
     let happened = TimedEvent {
-        delta: delta.value as u32,
-        event: event.value as u32,
-        value: value.value as u32,
+        delta: delta as u32,
+        event: event as u32,
+        value: value as u32,
         reference,
-        mode: mode.value as u32,
+        mode: mode as u32,
     };
-    HappenedWord {
-        happened,
-        words: next,
-    }
+    Some((happened, at))
 }
 
 // ANSWER STATE PARAMS ACTIONS.
-fn claims_word(line: &[u8], words: Words) -> ClaimsWord {
-    let answer = number_word(line, words, MOST);
-    let answer_words = answer.words;
-    let state = number_word(line, answer_words, MOST);
-    let state_words = state.words;
-    let parameters = number_word(line, state_words, MOST);
-    let parameters_words = parameters.words;
-    let actions = number_word(line, parameters_words, MOST);
-    let next = actions.words;
+fn claims_word(line: &[u8], at: usize) -> Option<(Claims, usize)> {
+    let (answer, at) = number_word(line, at, MOST)?;
+    let (state, at) = number_word(line, at, MOST)?;
+    let (parameters, at) = number_word(line, at, MOST)?;
+    let (actions, at) = number_word(line, at, MOST)?;
     let claims = Claims {
-        answer: answer.value as u32,
-        state: state.value as u32,
-        parameters: parameters.value as u32,
-        actions: actions.value as u32,
+        answer: answer as u32,
+        state: state as u32,
+        parameters: parameters as u32,
+        actions: actions as u32,
     };
-    ClaimsWord {
-        claims,
-        words: next,
-    }
+    Some((claims, at))
+}
+
+// Octets that are put behind the first `start` of the lent ones.
+fn place_word(line: &[u8], at: usize, octets: &mut [u8], start: usize) -> Option<(Place, usize)> {
+    let (count, next) = octets_word(line, at, octets, start)?;
+    Some((Place { start, count }, next))
 }
 
 // The first octets of a run, at most 256: a longer one is refused whatever it holds.
-fn first_octets(octets: &[u8], start: usize, count: usize, few: &mut [u8]) -> usize {
-    if few.len() < count {
-        let most = few.len();
-        put(few, Output { at: 0 }, part(octets, start, most));
-        return most;
-    }
-    put(few, Output { at: 0 }, part(octets, start, count));
+fn first_octets(octets: &[u8], place: Place, few: &mut [u8]) -> usize {
+    let count = place.count.min(few.len());
+    put(few, Output { at: 0 }, part(octets, place.start, count));
     count
 }
 
-// `record BUF USED DELTA EVENT ETV EREF MODE OCTETS ANSWER STATE PARAMS ACTIONS REPLY`, and `grecord`, by the table of the one and of the other.
+// BUF USED DELTA EVENT ETV EREF MODE OCTETS ANSWER STATE PARAMS ACTIONS REPLY, which are the whole line.
+fn take_fields(line: &[u8], at: usize, octets: &mut [u8]) -> Option<Told> {
+    let (size, at) = octets_word(line, at, octets, 0)?;
+    let (used, at) = number_word(line, at, MOST)?;
+    let (happened, at) = happened_word(line, at)?;
+    let (heard, at) = place_word(line, at, octets, size)?;
+    let (claims, at) = claims_word(line, at)?;
+    let (sent, at) = place_word(line, at, octets, size.wrapping_add(heard.count))?;
+    if !finished(line, at) {
+        return None;
+    }
+    Some(Told {
+        size,
+        used: used as usize,
+        happened,
+        heard,
+        claims,
+        sent,
+    })
+}
+
+// `record` and its fields, and `grecord`, by the table of the one and of the other.
 pub fn answer_record(
     table: Table,
     line: &[u8],
-    words: Words,
+    at: usize,
     octets: &mut [u8],
     buffer: &mut [u8],
     output: Output,
 ) -> Output {
-    let log = octets_word(line, words, octets, 0);
-    let size = log.count;
-    let used = number_word(line, log.words, MOST);
-    let event = happened_word(line, used.words);
-    let message = octets_word(line, event.words, octets, size);
-    let received = message.count;
-    let claim = claims_word(line, message.words);
-    let behind = std::num::wrapping_add_usize(size, received);
-    let reply = octets_word(line, claim.words, octets, behind);
-    if !finished(line, reply.words) {
-        return malformed(buffer, output);
+    match take_fields(line, at, octets) {
+        Some(told) if told.size <= octets.len() => {
+            say_recorded(table, buffer, output, octets, told)
+        }
+        _ => malformed(buffer, output),
     }
-    let happened = event.happened;
-    let claims = claim.claims;
-    let place = used.value as usize;
-    let heard = Place {
-        start: size,
-        count: received,
-    };
-    let sent = Place {
-        start: behind,
-        count: reply.count,
-    };
-    say_recorded(
-        table, buffer, output, octets, size, place, happened, heard, claims, sent,
-    )
 }
 
 fn say_recorded(
@@ -136,38 +122,37 @@ fn say_recorded(
     buffer: &mut [u8],
     output: Output,
     octets: &mut [u8],
-    size: usize,
-    used: usize,
-    happened: TimedEvent,
-    heard: Place,
-    claims: Claims,
-    sent: Place,
-) -> Output {
-    if octets.len() < size {
-        return malformed(buffer, output);
-    }
+    told: Told,
+) -> Output
+    requires { told.size ≤ length octets.old }
+{
     let mut message = [0u8; 256];
-    let received = first_octets(octets, heard.start, heard.count, &mut message);
+    let received = first_octets(octets, told.heard, &mut message);
     let mut reply = [0u8; 256];
-    let replied = first_octets(octets, sent.start, sent.count, &mut reply);
+    let replied = first_octets(octets, told.sent, &mut reply);
     let recorded = recorder::record_entry(
         table,
-        &mut octets[0..size],
-        used,
-        happened,
+        &mut octets[0..told.size],
+        told.used,
+        told.happened,
         part(&message, 0, received),
-        claims,
+        told.claims,
         part(&reply, 0, replied),
     );
-    say_answer(buffer, output, recorded, part(octets, 0, size))
+    say_answer(buffer, output, recorded, part(octets, 0, told.size))
 }
 
-fn say_answer(buffer: &mut [u8], output: Output, recorded: Recorded, log: &[u8]) -> Output {
+fn say_answer(
+    buffer: &mut [u8],
+    output: Output,
+    recorded: Result<usize, Refusal>,
+    log: &[u8],
+) -> Output {
     match recorded {
-        Recorded::OutOfRange => say(buffer, output, b"4\n"),
-        Recorded::TooLong => say(buffer, output, b"10\n"),
-        Recorded::NoRoom => say(buffer, output, b"11\n"),
-        Recorded::Used(total) => {
+        Err(Refusal::OutOfRange) => say(buffer, output, b"4\n"),
+        Err(Refusal::TooLong) => say(buffer, output, b"10\n"),
+        Err(Refusal::NoRoom) => say(buffer, output, b"11\n"),
+        Ok(total) => {
             let answer = say(buffer, output, b"0 ");
             let count = say_decimal(buffer, answer, total as u64);
             let space = say(buffer, count, b" ");

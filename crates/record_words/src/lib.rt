@@ -7,9 +7,10 @@ mod refusal;
 
 ghost use Rattle.std.specs.Prelude.{◌≡◌, length};
 
+use filing::ending::Failure;
 use filing::{read_file, write_file};
 use ignored_words::list;
-use making::{Made, make};
+use making::make;
 use message::Own;
 use refusal::tell_too_long;
 use replay::own_of;
@@ -26,17 +27,18 @@ fn script_room() -> [u8; 1048576]
 }
 
 // Reads the script, makes its log and writes that to a new file. Answers the verdict. Nothing is written unless the whole script goes through.
-pub fn run(rt: &HostRuntime, settings: Settings, script_path: &[u8], log_path: &[u8]) -> u8 {
+pub fn run(
+    rt: &HostRuntime,
+    settings: Settings,
+    script_path: &[u8],
+    log_path: &[u8],
+) -> Result<(), Failure> {
     let mut script = script_room();
-    let filed = read_file(rt, b"record", script_path, &mut script);
-    if !filed.good {
-        return 2;
-    }
+    let filed = read_file(rt, b"record", script_path, &mut script)?;
     if !filed.whole {
         tell_too_long(script_path);
-        return 1;
+        return Err(Failure::Refused);
     }
-    let count = filed.count;
     let identity = settings.identity;
     let named = settings.count;
     record_script(
@@ -44,7 +46,7 @@ pub fn run(rt: &HostRuntime, settings: Settings, script_path: &[u8], log_path: &
         own_of(settings),
         part(&identity, 0, named),
         script_path,
-        part(&script, 0, count),
+        filed.octets,
         log_path,
     )
 }
@@ -57,25 +59,21 @@ fn record_script(
     script_path: &[u8],
     script: &[u8],
     log_path: &[u8],
-) -> u8 {
+) -> Result<(), Failure> {
     let mut log = io::large_buffer();
-    let Made::Whole(entries, used) = make(own, identity, script_path, script, &mut log) else {
-        return 1;
+    let Some((entries, used)) = make(own, identity, script_path, script, &mut log) else {
+        return Err(Failure::Refused);
     };
-    let verdict = write_log(rt, log_path, part(&log, 0, used), entries);
-    if verdict == 0 {
-        list(own, identity, part(&log, 0, used), entries);
-    }
-    verdict
+    write_log(rt, log_path, part(&log, 0, used), entries)?;
+    list(own, identity, part(&log, 0, used), entries);
+    Ok(())
 }
 
-fn write_log(rt: &HostRuntime, path: &[u8], log: &[u8], entries: usize) -> u8 {
-    if !write_file(rt, b"record", path, log) {
-        return 2;
-    }
+fn write_log(rt: &HostRuntime, path: &[u8], log: &[u8], entries: usize) -> Result<(), Failure> {
+    write_file(rt, b"record", path, log)?;
     tell_name(path);
     tell(b": ");
     tell_count(entries, b" entry, ", b" entries, ");
     tell_count(log.len(), b" byte\n", b" bytes\n");
-    0
+    Ok(())
 }

@@ -9,7 +9,7 @@ use script::names::{
     GROUP_NOTIFIED,
 };
 use script::words::Word;
-use script::{Fault, Unfit};
+use script::{Fault, Unfit, Wrong};
 use settings_words::line::{tell_mark, tell_number_of, tell_quoted, tell_text};
 use text::words::part;
 
@@ -17,7 +17,7 @@ use text::words::part;
 // step gives an answer that no log holds; or the log has no room for the entry.
 #[derive(Clone, Copy)]
 pub(crate) enum Why {
-    Unreadable(Fault, Word),
+    Unreadable(Wrong),
     KindTwice,
     KindTooLate,
     GoesBack(u64),
@@ -48,9 +48,9 @@ pub(crate) fn tell_refusal(protocol: Protocol, path: &[u8], number: usize, line:
 
 fn tell_why(protocol: Protocol, line: &[u8], why: Why) {
     match why {
-        Why::Unreadable(fault, word) => {
-            tell_found(line, word);
-            tell_wanted(protocol, fault);
+        Why::Unreadable(wrong) => {
+            tell_found(line, wrong.word);
+            tell_wanted(protocol, wrong.fault);
         }
         Why::KindTwice => tell(
             b"the kind of call stands on a line before already, and it stands once: take one of the two lines out",
@@ -89,11 +89,11 @@ fn tell_answer(answer: u8) {
 }
 
 // What stands where something else is wanted.
-fn tell_found(line: &[u8], word: Word) {
-    if word.count == 0 {
+fn tell_found(line: &[u8], found: Option<Word>) {
+    let Some(word) = found else {
         tell(b"the line ends where ");
         return;
-    }
+    };
     tell_quoted(part(line, word.start, word.count));
     tell(b" stands where ");
 }

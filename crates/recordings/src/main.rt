@@ -3,52 +3,49 @@
 #![tactic(auto)]
 
 use filing::arguments::{argument, has_arguments};
-use filing::ending::tell_verdict;
+use filing::ending::{Failure, tell_verdict};
 use ignored_words::run_ignored;
 use saying::complain;
 use settings_values::Settings;
 use settings_words::argument::settings_argument;
-use text::words::{part, same};
 
-fn run_record(rt: &HostRuntime) -> u8 {
+fn run_record(rt: &HostRuntime) -> Result<(), Failure> {
     if !has_arguments(
         rt,
         3,
         b"record",
         b"three arguments, a settings file, a script and the name of the log to make",
     ) {
-        return 2;
+        return Err(Failure::NotRun);
     }
-    let fitted = settings_argument(rt, b"record");
-    if fitted.verdict != 0 {
-        return fitted.verdict;
-    }
-    let settings = fitted.settings;
+    let settings = settings_argument(rt, b"record")?;
     record_log(rt, settings)
 }
 
 // The script and the log that `record` makes of it.
-fn record_log(rt: &HostRuntime, settings: Settings) -> u8 {
+fn record_log(rt: &HostRuntime, settings: Settings) -> Result<(), Failure> {
     let mut script = io::buffer();
-    let length = argument(rt, 3, &mut script);
     let mut log = io::buffer();
-    let count = argument(rt, 4, &mut log);
-    record_words::run(rt, settings, part(&script, 0, length), part(&log, 0, count))
+    record_words::run(
+        rt,
+        settings,
+        argument(rt, 3, &mut script),
+        argument(rt, 4, &mut log),
+    )
 }
 
-fn run(rt: &HostRuntime, word: &[u8]) -> u8 {
-    if same(word, b"record") {
-        return run_record(rt);
+fn run(rt: &HostRuntime, word: &[u8]) -> Result<(), Failure> {
+    match word {
+        b"record" => run_record(rt),
+        b"ignored" => run_ignored(rt),
+        _ => {
+            complain(b"recordings: its words are record and ignored\n");
+            Err(Failure::NotRun)
+        }
     }
-    if same(word, b"ignored") {
-        return run_ignored(rt);
-    }
-    complain(b"recordings: its words are record and ignored\n");
-    2
 }
 
 fn main(rt: HostRuntime) {
-    let mut text = io::buffer();
-    let count = argument(&rt, 1, &mut text);
-    tell_verdict(&rt, run(&rt, part(&text, 0, count)));
+    let mut word = io::buffer();
+    tell_verdict(&rt, run(&rt, argument(&rt, 1, &mut word)));
 }

@@ -9,7 +9,7 @@ use lib.ListN.{length, length-append}
 use lib.Seq.{take-length}
 use borrow.Author.Tests.{le-leb, lt-leb, leb-true, leb-false}
 use Rattle.octets.specs.Run.{part}
-use Rattle.message.specs.declared.Half.TheVariants.{Present}
+use Rattle.std.specs.Prelude.{Some}
 use Rattle.message.specs.Content.{status}
 use Rattle.message.specs.Tables.{table, written}
 use Rattle.codes.specs.declared.protocol.Protocol.{Protocol}
@@ -17,7 +17,7 @@ use Rattle.context.specs.declared.Context.{Context}
 use Rattle.reply.specs.Reply.{sent, status_of, cause_octet, copied, copy_count}
 
 -- Head, type, length octet, cause, call state and state attributes.
-pub telling-length : (protocol : Protocol) (x : Context) (cause : List ℕ) (state attributes : ℕ) → length (sent protocol x (status cause (Present state) (Present attributes))) ≡ 5 + length cause
+pub telling-length : (protocol : Protocol) (x : Context) (cause : List ℕ) (state attributes : ℕ) → length (sent protocol x (status cause (Some state) (Some attributes))) ≡ 5 + length cause
 unfolding sent written table
 telling-length protocol x cause state attributes = simp length-append (omega arith)
 

@@ -13,7 +13,7 @@ use Rattle.codes.specs.declared.attributes.Parameters.{Parameters}
 use Rattle.codes.specs.CallStates.{call_state_code}
 use Rattle.codes.specs.Attributes.{attributes_of, weighs}
 use Rattle.octets.proofs.Choice.{at_cond}
-use Rattle.message.specs.declared.Half.TheVariants.{Present}
+use Rattle.std.specs.Prelude.{Some}
 use Rattle.message.specs.Content.{Content, immediate_setup, setup, termination_request, status}
 use Rattle.message.specs.Tables.{fits, table, type_of, written, rows_fit}
 use Rattle.codes.specs.declared.protocol.Protocol.{Protocol}
@@ -77,10 +77,10 @@ put_within protocol room own identity s x (ErrorStatus cause) = content_within p
 
 module _ (protocol : Protocol) (x : Context) (value : x.value ≤ 6) where
   telling-fits : (cause : List ℕ) (s : State) (p : Parameters) → 1 ≤ length cause → length cause ≤ 246
-      → fits protocol (flag_sent x) x.value (status cause (Present (call_state_code s)) (Present (attributes_of p))) ≡ true
+      → fits protocol (flag_sent x) x.value (status cause (Some (call_state_code s)) (Some (attributes_of p))) ≡ true
   unfolding fits table sent
   telling-fits cause s p low high =
-      let c : Content = status cause (Present (call_state_code s)) (Present (attributes_of p)) in
+      let c : Content = status cause (Some (call_state_code s)) (Some (attributes_of p)) in
       let l : length (sent protocol x c) ≡ 5 + length cause = telling-length protocol x cause _ _ in
       and_both _ _ (le-leb _ _ value)
       (and_both _ _ (and_both _ _ (and_both _ _ (le-leb 2 (1 + length cause) (omega arith)) (le-leb (1 + length cause) 248 (omega arith))) (and_both _ _ (code_small s) (and_both _ _ (attributes_small p) refl)))
@@ -167,7 +167,7 @@ module _ (protocol : Protocol) (x : Context) (value : x.value ≤ 6) (k : Sent) 
   unfolding put_due
   due_goes t c e = rw e
 
-  status_goes : put_due protocol k.status x (status (cause_octet 30 ∷ []) (Present (call_state_code k.state)) (Present (attributes_of k.parameters))) ≡ status_due protocol x k
+  status_goes : put_due protocol k.status x (status (cause_octet 30 ∷ []) (Some (call_state_code k.state)) (Some (attributes_of k.parameters))) ≡ status_due protocol x k
   unfolding status_due
   status_goes = due_goes k.status _ (telling-fits protocol x value (cause_octet 30 ∷ []) k.state k.parameters (omega arith) (omega arith))
 

@@ -14,13 +14,13 @@ use Rattle.octets.proofs.Stores.{sets-append, part-sets}
 use Rattle.codes.specs.CallStates.{call_state_code}
 use Rattle.codes.specs.Attributes.{attributes_of}
 use Rattle.codes.specs.declared.protocol.Protocol.{Protocol}
-use Rattle.message.specs.declared.Half.TheVariants.{Present}
+use Rattle.std.specs.Prelude.{Some, Result, Ok, Err}
+use Rattle.writing.specs.declared.Unwritten.{Unwritten}
+use Rattle.writing.specs.declared.Unwritten.TheVariants.{OutOfRange, ShortBuffer}
 use Rattle.message.specs.declared.Message.{Message}
 use Rattle.message.specs.declared.Message.TheVariants.{TerminationRequest}
 use Rattle.message.specs.Content.{termination_request, status, lies}
 use Rattle.message.specs.Tables.{written, table}
-use Rattle.writing.specs.declared.Wrote.{Wrote}
-use Rattle.writing.specs.declared.Wrote.TheVariants.{Written, ShortBuffer, OutOfRange}
 use Rattle.writing.specs.Writing.{writable, octets_written, put_answer, put_leaves}
 use Rattle.context.specs.declared.Context.{Context}
 use Rattle.call.specs.declared.Sent.{Sent}
@@ -29,7 +29,8 @@ use Rattle.call.specs.declared.Sending.{Sending}
 use Rattle.message.specs.declared.Own.{Own}
 use Rattle.reply.specs.declared.Sender.{Sender}
 use Rattle.reply.specs.Reply.{sent, cause_octet, hearing, behind, put_due, put_of, put_all}
-use Rattle.reply.specs.Put.{count_of, sender_of, status_telling, message_from, placed, pending_of}
+use Rattle.std.specs.Result.{result_unwrap_or}
+use Rattle.reply.specs.Put.{sender_of, status_telling, message_from, placed, pending_of}
 use Rattle.reply.proofs.Fits.{put_within}
 
 -- So many octets `n` stand behind the first `at` of `d`, and are `w`.
@@ -82,10 +83,10 @@ module _ (d : List ℕ) (at : ℕ) (low : at ≤ length d) (w : List ℕ) where
 
   -- What the writer answers and leaves, where the message can be written and where it can't.
   abbrev Put : Bool → Bool → List ℕ → Type 0
-  Put can short v = Stands d at v (at + count_of (cond can (cond short ShortBuffer (Written (length w))) OutOfRange)) (back d at (cond can (cond short (lent d at) (sets (lent d at) 0 w)) (lent d at)))
+  Put can short v = Stands d at v (at + result_unwrap_or (cond can (cond short (Err ShortBuffer) (Ok (length w))) (Err OutOfRange)) 0) (back d at (cond can (cond short (lent d at) (sets (lent d at) 0 w)) (lent d at)))
 
   into_part : (can : Bool) → Put can (ltb (length (lent d at)) (length w)) (placed (length d) at (cond can w []))
-  unfolding placed count_of
+  unfolding placed
   into_part true = go (leb (at + length w) (length d)) refl
     where
       go : (t : Bool) → leb (at + length w) (length d) ≡ t → Put true (ltb (length (lent d at)) (length w)) (cond (leb (at + length w) (length d)) w [])
@@ -108,7 +109,7 @@ module _ (protocol : Protocol) (s : List ℕ) (x : Context) (m : Message) (d : L
   unfolding placed
   not_due e = stands_as d at _ [] at d (ap (λ (t : Bool). placed (length d) at (cond t (message_from protocol s (sender_of x) m) [])) (not-true due e) ∙ cond_same (leb (at + length {A = ℕ} []) (length d)) []) (nothing-stands d at)
 
-  module _ (e : not due ≡ false) (low : at ≤ length d) (y : Sender) (f : y ≡ sender_of x) (w : Wrote) (p : w ≡ put_answer protocol (lent d at) s y.flag y.value m) (n : ℕ) (q : n ≡ count_of w) where
+  module _ (e : not due ≡ false) (low : at ≤ length d) (y : Sender) (f : y ≡ sender_of x) (w : Result ℕ Unwritten) (p : w ≡ put_answer protocol (lent d at) s y.flag y.value m) (n : ℕ) (q : n ≡ result_unwrap_or w 0) where
     pub due_put : (after : List ℕ) → after ≡ put_leaves protocol (lent d at) s y.flag y.value m → Due (at + n) (back d at after)
     unfolding put_answer put_leaves message_from
     due_put after u =
@@ -117,7 +118,7 @@ module _ (protocol : Protocol) (s : List ℕ) (x : Context) (m : Message) (d : L
         let i : Put d at low octets t (ltb (length (lent d at)) (length octets)) (placed (length d) at (cond t octets [])) = into_part d at low octets t in
         stands_as d at _ (placed (length d) at (cond t octets [])) (at + n) _
         (ap (λ (g : Bool). placed (length d) at (cond g (message_from protocol s (sender_of x) m) [])) (not-false due e) ∙ ap (λ (z : Sender). placed (length d) at (message_from protocol s z m)) (sym f))
-        (ap (λ (j : ℕ). at + j) (q ∙ ap count_of p) ∙ i.0, ap (back d at) u ∙ i.1)
+        (ap (λ (j : ℕ). at + j) (q ∙ ap (λ (r : Result ℕ Unwritten). result_unwrap_or r 0) p) ∙ i.0, ap (back d at) u ∙ i.1)
 
     pub due_within : (after : List ℕ) → after ≡ put_leaves protocol (lent d at) s y.flag y.value m → at + n ≤ length d
     due_within after u =
@@ -177,7 +178,7 @@ unfolding behind
 behind-none room v = ap (λ (w : List ℕ). cond (leb (length v + 0) room) w v) (append-nil v) ∙ cond_same (leb (length v + 0) room) v
 
 module _ (protocol : Protocol) (x : Context) (k : Sent) where
-  status_due_lem : put_due protocol k.status x (status (cause_octet 30 ∷ []) (Present (call_state_code k.state)) (Present (attributes_of k.parameters)))
+  status_due_lem : put_due protocol k.status x (status (cause_octet 30 ∷ []) (Some (call_state_code k.state)) (Some (attributes_of k.parameters)))
       ≡ cond k.status (message_from protocol (158 ∷ []) (sender_of x) (status_telling (record { start = 0; count = 1 }) k.state k.parameters)) []
   unfolding put_due message_from writable lies sent written table
   status_due_lem = refl

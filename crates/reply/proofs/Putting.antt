@@ -17,24 +17,24 @@ use Rattle.codes.specs.Attributes.{attributes_of}
 use Rattle.octets.specs.declared.Run.{Run}
 use Rattle.octets.specs.declared.Reference.{Reference}
 use Rattle.message.specs.declared.Classmark.{Classmark}
-use Rattle.message.specs.declared.Half.TheVariants.{Present}
+use Rattle.std.specs.Prelude.{Some, Result, Ok, Err}
+use Rattle.writing.specs.declared.Unwritten.{Unwritten}
+use Rattle.writing.specs.declared.Unwritten.TheVariants.{OutOfRange, ShortBuffer}
 use Rattle.message.specs.declared.Message.{Message}
 use Rattle.message.specs.declared.Message.TheVariants.{ImmediateSetup, Setup, TerminationRequest, Status}
 use Rattle.message.specs.Content.{Content, immediate_setup, setup, termination_request, status, lies}
 use Rattle.message.specs.Tables.{written, fits}
-use Rattle.writing.specs.declared.Wrote.{Wrote}
-use Rattle.writing.specs.declared.Wrote.TheVariants.{Written, ShortBuffer, OutOfRange}
 use Rattle.writing.specs.Writing.{writable, octets_written, write_answer, write_leaves}
 use Rattle.codes.specs.declared.protocol.Protocol.{Protocol}
 use Rattle.context.specs.declared.Context.{Context}
 use Rattle.context.specs.Talk.{flag_of}
 use Rattle.reply.specs.declared.Sender.{Sender}
 use Rattle.reply.specs.Reply.{sent, status_of, cause_octet, copied, copy_count, hearing, put_content}
-use Rattle.reply.specs.Put.{count_of, sender_of, status_by, status_telling, message_from, put_by, put_from}
+use Rattle.std.specs.Result.{result_unwrap_or}
+use Rattle.reply.specs.Put.{sender_of, status_by, status_telling, message_from, put_by, put_from}
 use Rattle.reply.proofs.Copied.{copied-part}
 
-answered : (a b : Bool) (w : List ℕ) → count_of (cond a ShortBuffer (cond b (Written (length w)) OutOfRange)) ≡ length (cond a [] (cond b w []))
-unfolding count_of
+answered : (a b : Bool) (w : List ℕ) → result_unwrap_or (cond a (Err ShortBuffer) (cond b (Ok (length w)) (Err OutOfRange))) 0 ≡ length (cond a [] (cond b w []))
 answered true b w = refl
 answered false true w = refl
 answered false false w = refl
@@ -50,9 +50,9 @@ opposite_sent x f e = rw e
 
 -- `put_message`: the count is what the writer answers.
 module _ (protocol : Protocol) (d s : List ℕ) (y : Sender) (m : Message) where
-  pub put_count : (w : Wrote) (n : ℕ) → w ≡ write_answer protocol d s y.flag y.value m → n ≡ count_of w → n ≡ length (put_from protocol (length d) s y m)
+  pub put_count : (w : Result ℕ Unwritten) (n : ℕ) → w ≡ write_answer protocol d s y.flag y.value m → n ≡ result_unwrap_or w 0 → n ≡ length (put_from protocol (length d) s y m)
   unfolding write_answer put_from message_from
-  put_count w n p q = q ∙ ap count_of p ∙ answered (ltb (length d) 255) (writable protocol s y.flag y.value m) (octets_written protocol s y.flag y.value m)
+  put_count w n p q = q ∙ ap (λ (r : Result ℕ Unwritten). result_unwrap_or r 0) p ∙ answered (ltb (length d) 255) (writable protocol s y.flag y.value m) (octets_written protocol s y.flag y.value m)
 
   pub put_leaves_lem : (after : List ℕ) → after ≡ write_leaves protocol d s y.flag y.value m → after ≡ sets d 0 (put_from protocol (length d) s y m)
   unfolding write_leaves put_from message_from
@@ -60,7 +60,7 @@ module _ (protocol : Protocol) (d s : List ℕ) (y : Sender) (m : Message) where
 
 -- `status_telling`: the state as its code, the parameters as attributes.
 pub telling : (cause : Run) (state : State) (p : Parameters) (code attributes : ℕ) → code ≡ call_state_code state → attributes ≡ attributes_of p
-    → Status cause (Present code) (Present attributes) ≡ status_telling cause state p
+    → Status cause (Some code) (Some attributes) ≡ status_telling cause state p
 telling cause state p code attributes e f = rw (e, f)
 
 -- A message whose runs lie within the source is written as its content.
@@ -85,7 +85,7 @@ module _ (protocol : Protocol) (room : ℕ) (s : List ℕ) (y : Sender) where
       let k : length cause ≤ length zeros = omega arith in
       let t : take (1 + count) s ≡ cause = ap (λ (j : ℕ). take j s) (sym l) ∙ ap (take (length cause)) e ∙ over_start zeros cause k in
       ap (put_from protocol room s y) p
-      ∙ lying (leb (0 + (1 + count)) (length s)) (status (part s 0 (1 + count)) (Present (call_state_code y.state)) (Present (attributes_of y.parameters))) (status_by y cause)
+      ∙ lying (leb (0 + (1 + count)) (length s)) (status (part s 0 (1 + count)) (Some (call_state_code y.state)) (Some (attributes_of y.parameters))) (status_by y cause)
       (le-leb (0 + (1 + count)) (length s) (omega arith)) (rw t)
 
   pub setup_from : (r : Reference) → put_from protocol room s y (Setup r) ≡ put_by protocol room y (setup r)

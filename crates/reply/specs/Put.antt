@@ -1,29 +1,20 @@
 -- What writing a message comes to, where its runs lie in `s`.
-use Rattle.std.specs.Prelude.{ℕ, ◌+◌, List, [], ◌∷◌, ◌++◌, cond, leb, ltb, length}
+use Rattle.std.specs.Prelude.{ℕ, ◌+◌, List, [], ◌∷◌, ◌++◌, cond, leb, ltb, length, Some}
 use Rattle.octets.specs.declared.Run.{Run}
 use Rattle.codes.specs.declared.state.State.{State}
 use Rattle.codes.specs.declared.attributes.Parameters.{Parameters}
 use Rattle.codes.specs.CallStates.{call_state_code}
 use Rattle.codes.specs.Attributes.{attributes_of}
-use Rattle.message.specs.declared.Half.TheVariants.{Present}
 use Rattle.message.specs.declared.Message.{Message}
 use Rattle.message.specs.declared.Message.TheVariants.{TerminationRequest, Status}
 use Rattle.message.specs.Content.{Content, status}
 use Rattle.message.specs.Tables.{written, fits}
-use Rattle.writing.specs.declared.Wrote.{Wrote}
-use Rattle.writing.specs.declared.Wrote.TheVariants.{Written, ShortBuffer, OutOfRange}
 use Rattle.writing.specs.Writing.{writable, octets_written}
 use Rattle.codes.specs.declared.protocol.Protocol.{Protocol}
 use Rattle.context.specs.declared.Context.{Context}
 use Rattle.call.specs.declared.Sent.{Sent}
 use Rattle.reply.specs.declared.Sender.{Sender}
 use Rattle.reply.specs.Reply.{flag_sent}
-
--- How many octets writing wrote.
-unfoldable pub count_of : Wrote → ℕ
-count_of (Written count) = count
-count_of ShortBuffer = 0
-count_of OutOfRange = 0
 
 -- What a message has of the context that it is sent in.
 abbrev pub sender_of : Context → Sender
@@ -41,11 +32,11 @@ unfoldable pub put_by : Protocol → ℕ → Sender → Content → List ℕ
 put_by protocol room by content = cond (ltb room 255) [] (cond (fits protocol by.flag by.value content) (written protocol by.flag by.value content) [])
 
 unfoldable pub status_by : Sender → List ℕ → Content
-status_by by cause = status cause (Present (call_state_code by.state)) (Present (attributes_of by.parameters))
+status_by by cause = status cause (Some (call_state_code by.state)) (Some (attributes_of by.parameters))
 
 -- A STATUS that tells a state and parameters, where its cause lies in a run.
 abbrev pub status_telling : Run → State → Parameters → Message
-status_telling cause state parameters = Status cause (Present (call_state_code state)) (Present (attributes_of parameters))
+status_telling cause state parameters = Status cause (Some (call_state_code state)) (Some (attributes_of parameters))
 
 -- Octets behind the first `at`, where there is room for them, and else none.
 unfoldable pub placed : ℕ → ℕ → List ℕ → List ℕ

@@ -1,8 +1,7 @@
 -- What the mobile station sends, as octets. Document 01, "Received messages".
-use Rattle.std.specs.Prelude.{ℕ, ◌+◌, ◌/◌, ◌%◌, List, [], ◌∷◌, ◌++◌, Bool, cond, not, ◌&&◌, length, get_or, leb, ltb}
+use Rattle.std.specs.Prelude.{ℕ, ◌+◌, ◌/◌, ◌%◌, List, [], ◌∷◌, ◌++◌, Bool, cond, not, ◌&&◌, length, get_or, leb, ltb, Some}
 use Rattle.codes.specs.CallStates.{call_state_code}
 use Rattle.codes.specs.Attributes.{attributes_of}
-use Rattle.message.specs.declared.Half.TheVariants.{Present}
 use Rattle.message.specs.Content.{Content, immediate_setup, setup, termination_request, status}
 use Rattle.message.specs.Tables.{written, fits}
 use Rattle.codes.specs.declared.protocol.Protocol.{Protocol}
@@ -26,7 +25,7 @@ sent protocol x content = written protocol (flag_sent x) x.value content
 
 -- A step's STATUS carries call state and state attributes, of the context as it is.
 unfoldable pub status_of : Context → List ℕ → Content
-status_of x cause = status cause (Present (call_state_code x.state)) (Present (attributes_of x.parameters))
+status_of x cause = status cause (Some (call_state_code x.state)) (Some (attributes_of x.parameters))
 
 -- 9.4.3: a cause octet, bit 8 set.
 abbrev pub cause_octet : ℕ → ℕ
@@ -59,7 +58,7 @@ own_of protocol own identity s x (ErrorStatus cause) = let y : Context = hearing
 -- What was pending and is sent now: a STATUS with cause 30, "Response to GET STATUS", that tells the state and the parameters which made it due, and a TERMINATION REQUEST.
 unfoldable pub status_due : Protocol → Context → Sent → List ℕ
 status_due protocol x k =
-    cond k.status (sent protocol x (status (cause_octet 30 ∷ []) (Present (call_state_code k.state)) (Present (attributes_of k.parameters)))) []
+    cond k.status (sent protocol x (status (cause_octet 30 ∷ []) (Some (call_state_code k.state)) (Some (attributes_of k.parameters)))) []
 
 unfoldable pub request_due : Protocol → Context → Sent → List ℕ
 request_due protocol x k = cond k.request (sent protocol x (termination_request x.reference)) []
@@ -100,5 +99,5 @@ unfoldable pub put_all : Protocol → ℕ → Own → List ℕ → List ℕ → 
 put_all protocol room own identity s x sends k =
     behind room
     (behind room (put_of protocol room own identity s x sends)
-    (put_due protocol k.status x (status (cause_octet 30 ∷ []) (Present (call_state_code k.state)) (Present (attributes_of k.parameters)))))
+    (put_due protocol k.status x (status (cause_octet 30 ∷ []) (Some (call_state_code k.state)) (Some (attributes_of k.parameters)))))
     (put_due protocol k.request x (termination_request x.reference))

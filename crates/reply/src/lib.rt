@@ -6,7 +6,7 @@ ghost use Rattle.std.proofs.lemmas.List.Edits.{sets};
 ghost use Rattle.octets.specs.Run.{part};
 ghost use Rattle.message.specs.Content.{immediate_setup};
 ghost use Rattle.reply.specs.Reply.{copy_count, hearing, put_content, put_row, put_of, put_all};
-ghost use Rattle.reply.specs.Put.{count_of, sender_of, status_by, status_telling, message_from, put_by, put_from, placed, pending_of};
+ghost use Rattle.reply.specs.Put.{sender_of, status_by, status_telling, message_from, put_by, put_from, placed, pending_of};
 
 use call::{Sending, Sent};
 use codes::attributes::{Parameters, attributes_of};
@@ -14,24 +14,12 @@ use codes::cause;
 use codes::protocol::Protocol;
 use codes::state::{State, call_state_code};
 use context::{Context, Talk};
-use message::{Half, Message, Own};
+use message::{Message, Own};
 use octets::Run;
 use transitions::Send;
-use writing::Wrote;
 
 // "Response to GET STATUS" as the one octet of a cause: bit 8 says that no part follows.
 const ASKED_FOR: u8 = 128 + cause::RESPONSE_TO_GET_STATUS;
-
-// How many octets writing wrote.
-fn written_count(wrote: Wrote) -> usize
-    ensures { result ≡ count_of wrote }
-{
-    match wrote {
-        Wrote::Written(count) => count,
-        Wrote::ShortBuffer => 0,
-        Wrote::OutOfRange => 0,
-    }
-}
 
 // What a message has of the context that it is sent in: the transaction's flag and value, and what a STATUS tells.
 // It has few octets. A context that was handed to a function of two callers would stand in memory at every step, also where nothing is sent.
@@ -68,8 +56,7 @@ fn put_message(
     ensures value { result ≡ length (put_from protocol (length reply.old) source.now sender message) }
     ensures reply_after { reply.new ≡ sets reply.old 0 (put_from protocol (length reply.old) source.now sender message) }
 {
-    let wrote = writing::write(protocol, reply, source, sender.flag, sender.value, message);
-    written_count(wrote)
+    writing::write(protocol, reply, source, sender.flag, sender.value, message).unwrap_or(0)
 }
 
 // A STATUS that tells a state and parameters.
@@ -80,8 +67,8 @@ fn status_telling(cause: Run, state: State, parameters: Parameters) -> Message
     let attributes = attributes_of(parameters);
     Message::Status {
         cause,
-        state: Half::Present(code),
-        attributes: Half::Present(attributes),
+        state: Some(code),
+        attributes: Some(attributes),
     }
 }
 
@@ -279,15 +266,15 @@ fn put_due(
     }
     let cause = [ASKED_FOR; 1];
     let sender = sender_of(context);
-    let wrote = writing::put(
+    let count = writing::put(
         protocol,
         &mut reply[at..],
         &cause,
         sender.flag,
         sender.value,
         message,
-    );
-    let count = written_count(wrote);
+    )
+    .unwrap_or(0);
     at + count
 }
 

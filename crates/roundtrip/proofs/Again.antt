@@ -9,21 +9,20 @@ use borrow.Author.Tests.{le-leb, lt-ltb}
 use Rattle.codes.specs.declared.protocol.Protocol.{Protocol}
 use Rattle.codes.specs.declared.protocol.Protocol.TheVariants.{Broadcast, Group}
 use Rattle.octets.specs.declared.Run.{Run}
-use Rattle.element.specs.declared.Found.{Found}
-use Rattle.element.specs.declared.Found.TheVariants.{At, Nothing}
-use Rattle.element.specs.declared.Counted.{Counted}
-use Rattle.element.specs.declared.Counted.TheVariants.{Octets, CutShort as CountedShort, WrongLength as CountedWrong}
+use Rattle.std.specs.Prelude.{Option, Some, None, Result, Ok, Err}
+use Rattle.element.specs.declared.Miscount.{Miscount}
+use Rattle.message.specs.declared.Reading.{Reading}
+use Rattle.message.specs.declared.Unread.{Unread}
 use Rattle.element.specs.Elements.{element_from}
 use Rattle.element.specs.Counted.{counted_at}
+use Rattle.std.specs.Result.{result_ok}
 use Rattle.element.proofs.Elements.{within_says, Told, seek_told}
 use Rattle.element.proofs.Counting.{Lies, counted-told, Told as Counts}
 use Rattle.message.specs.declared.Message.{Message}
 use Rattle.message.specs.declared.Message.TheVariants.{Status}
-use Rattle.message.specs.declared.Reading.{Reading}
-use Rattle.message.specs.declared.Reading.TheVariants.{Is as Reads, Unreadable, TooLong}
 use Rattle.message.specs.Content.{Content, content_of}
 use Rattle.message.specs.Tables.{written, fits}
-use Rattle.message.specs.Reading.{octet, behind, four_octets, if_counted, identity_behind, identity_found, half_found, half_at, read_message}
+use Rattle.message.specs.Reading.{octet, behind, four_octets, identity_behind, identity_found, half_found, half_at, read_message}
 use Rattle.message.proofs.Each.{RejectLies, Each, of_read}
 use Rattle.writing.specs.Writing.{writable, octets_written}
 use Rattle.limits.specs.Limits.{run_fits, reject_fits, half_fits, half_count}
@@ -44,28 +43,27 @@ module _ (s : List ℕ) where
   run-passes at most r l =
       let w : (1 ≤ r.count) × (r.count ≤ most) = within_says r.count 1 most l.within in sym (run-good s r 1 most w.0 w.1 l.fits)
 
-  if_counted_lem : (at : ℕ) (c : Counted) → Counts s at 1 8 c → identity_fits s (if_counted c) ≡ true
-  if_counted_lem at (Octets r) t = run-passes at 8 r t
-  if_counted_lem at CountedShort t = refl
-  if_counted_lem at CountedWrong t = refl
+  ok-passes : (at : ℕ) (c : Result Run Miscount) → Counts s at 1 8 c → identity_fits s (result_ok c) ≡ true
+  ok-passes at (Ok r) t = run-passes at 8 r t
+  ok-passes at (Err miscount) t = refl
 
-  identity-passes : (found : Found) → identity_fits s (identity_found s found) ≡ true
+  identity-passes : (found : Option (ℕ × ℕ)) → identity_fits s (identity_found s found) ≡ true
   unfolding identity_behind
-  identity-passes Nothing = refl
-  identity-passes (At place identifier) = if_counted_lem (place + 1) (counted_at s (place + 1) 1 8) (counted-told s (place + 1) 1 8)
+  identity-passes None = refl
+  identity-passes (Some (place, identifier)) = ok-passes (place + 1) (counted_at s (place + 1) 1 8) (counted-told s (place + 1) 1 8)
 
   -- A half octet that was found is below 16.
-  half_passes : (found : Found) → half_fits (half_found found) ≡ true
-  half_passes Nothing = refl
-  half_passes (At place identifier) = lt-ltb (identifier % 16) 16 (omega arith)
+  half_passes : (found : Option (ℕ × ℕ)) → half_fits (half_found found) ≡ true
+  half_passes None = refl
+  half_passes (Some (place, identifier)) = lt-ltb (identifier % 16) 16 (omega arith)
 
   -- Call state and state attributes are two octets where both are found.
-  halves-few : (end : ℕ) (f g : Found) → Told s end 0xA0 0xAF f → Told s end 0xB0 0xBF g → end ≤ length s
+  halves-few : (end : ℕ) (f g : Option (ℕ × ℕ)) → Told s end 0xA0 0xAF f → Told s end 0xB0 0xBF g → end ≤ length s
       → end + half_count (half_found f) + half_count (half_found g) ≤ length s
-  halves-few end Nothing Nothing t u h = omega arith
-  halves-few end (At p x) Nothing t u h = let a : end ≤ p = t.from in let b : p < length s = t.below in omega arith
-  halves-few end Nothing (At q y) t u h = let a : end ≤ q = u.from in let b : q < length s = u.below in omega arith
-  halves-few end (At p x) (At q y) t u h = two (within_says x 0xA0 0xAF t.meant) (within_says y 0xB0 0xBF u.meant)
+  halves-few end None None t u h = omega arith
+  halves-few end (Some (p, x)) None t u h = let a : end ≤ p = t.from in let b : p < length s = t.below in omega arith
+  halves-few end None (Some (q, y)) t u h = let a : end ≤ q = u.from in let b : q < length s = u.below in omega arith
+  halves-few end (Some (p, x)) (Some (q, y)) t u h = two (within_says x 0xA0 0xAF t.meant) (within_says y 0xB0 0xBF u.meant)
     where
       two : (0xA0 ≤ x) × (x ≤ 0xAF) → (0xB0 ≤ y) × (y ≤ 0xBF) → end + 1 + 1 ≤ length s
       two v w =
@@ -84,8 +82,8 @@ module _ (s : List ℕ) where
   unfolding half_at
   status-passes protocol short r l =
       let start : r.start ≡ 3 = l.start in
-      let f : Found = element_from s (behind r) 0xA0 0xAF in
-      let g : Found = element_from s (behind r) 0xB0 0xBF in
+      let f : Option (ℕ × ℕ) = element_from s (behind r) 0xA0 0xAF in
+      let g : Option (ℕ × ℕ) = element_from s (behind r) 0xB0 0xBF in
       let few : behind r + half_count (half_found f) + half_count (half_found g) ≤ length s =
       halves-few (behind r) f g (seek_told s (behind r) 0xA0 0xAF) (seek_told s (behind r) 0xB0 0xBF) l.fits in
       let total : 3 + r.count + half_count (half_found f) + half_count (half_found g) ≤ 251 = omega arith in
@@ -111,25 +109,28 @@ module _ (s : List ℕ) where
   }
 
   -- What was read can be written again: its runs lie within the octets, and it fits its table; a transaction value of 7 alone is not written.
-  pub read_writes : (protocol : Protocol) (f : Bool) (v : ℕ) (m : Message) → read_message protocol s ≡ Reads f v m → v ≤ 6 → writable protocol s f v m ≡ true
-  read_writes protocol f v m e six = sym (fits-same s f v six protocol m) ∙ of_read protocol s (Passes protocol) (each-passes protocol) f v m e
+  pub read_writes : (protocol : Protocol) (read : Reading) → read_message protocol s ≡ Ok read → read.value ≤ 6
+      → writable protocol s read.flag read.value read.message ≡ true
+  read_writes protocol read e six =
+      sym (fits-same s read.flag read.value six protocol read.message) ∙ of_read protocol s (Passes protocol) (each-passes protocol) read e
 
 -- A message that was read, written again, is read as the same message.
-pub read_again : (protocol : Protocol) (s : List ℕ) (f : Bool) (v : ℕ) (m : Message) → read_message protocol s ≡ Reads f v m → v ≤ 6
-    → GivesBack protocol (written protocol f v (content_of s m)) f v (content_of s m)
-read_again protocol s f v m e six = table-back protocol f v (content_of s m) (writable-fits protocol s f v m (read_writes s protocol f v m e six))
+pub read_again : (protocol : Protocol) (s : List ℕ) (read : Reading) → read_message protocol s ≡ Ok read → read.value ≤ 6
+    → GivesBack protocol (written protocol read.flag read.value (content_of s read.message)) read.flag read.value (content_of s read.message)
+read_again protocol s read e six =
+    table-back protocol read.flag read.value (content_of s read.message)
+    (writable-fits protocol s read.flag read.value read.message (read_writes s protocol read e six))
 
 -- Octets that the tables draw, read and written again, are the same octets.
 pub same-octets : (protocol : Protocol) (f : Bool) (v : ℕ) (c : Content) → fits protocol f v c ≡ true → WritesAgain protocol (written protocol f v c) (read_message protocol (written protocol f v c))
 same-octets protocol f v c e = go (read_message protocol (written protocol f v c)) refl (table-back protocol f v c e)
   where
-    go : (r : Reading) → read_message protocol (written protocol f v c) ≡ r → Says (written protocol f v c) f v c r → WritesAgain protocol (written protocol f v c) r
-    go (Reads g w m) q (flag, value, content) =
-        let six : w ≤ 6 = subst (λ (n : ℕ). n ≤ 6) (sym value) (fitting protocol f v c e).six in
-        let same : octets_written protocol (written protocol f v c) g w m ≡ written protocol f v c =
-        ap (λ (b : Bool). written protocol b w (content_of (written protocol f v c) m)) flag
-        ∙ ap (λ (n : ℕ). written protocol f n (content_of (written protocol f v c) m)) value
+    go : (r : Result Reading Unread) → read_message protocol (written protocol f v c) ≡ r → Says (written protocol f v c) f v c r → WritesAgain protocol (written protocol f v c) r
+    go (Ok read) q (flag, value, content) =
+        let six : read.value ≤ 6 = subst (λ (n : ℕ). n ≤ 6) (sym value) (fitting protocol f v c e).six in
+        let same : octets_written protocol (written protocol f v c) read.flag read.value read.message ≡ written protocol f v c =
+        ap (λ (b : Bool). written protocol b read.value (content_of (written protocol f v c) read.message)) flag
+        ∙ ap (λ (n : ℕ). written protocol f n (content_of (written protocol f v c) read.message)) value
         ∙ ap (λ (x : Content). written protocol f v x) content in
-        (read_writes (written protocol f v c) protocol g w m q six, same)
-    go (Unreadable fault) q s = s
-    go TooLong q s = s
+        (read_writes (written protocol f v c) protocol read q six, same)
+    go (Err unread) q s = s

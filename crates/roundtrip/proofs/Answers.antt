@@ -11,8 +11,9 @@ use Rattle.codes.specs.declared.protocol.Protocol.{Protocol}
 use Rattle.message.specs.declared.Message.{Message}
 use Rattle.message.specs.Answers.{reading_number}
 use Rattle.message.specs.Reading.{read_message}
-use Rattle.writing.specs.declared.Wrote.{Wrote}
-use Rattle.writing.specs.declared.Wrote.TheVariants.{Written, ShortBuffer, OutOfRange}
+use Rattle.std.specs.Prelude.{Result, Ok, Err}
+use Rattle.writing.specs.declared.Unwritten.{Unwritten}
+use Rattle.writing.specs.declared.Unwritten.TheVariants.{OutOfRange, ShortBuffer}
 use Rattle.writing.specs.Writing.{writable, octets_written, write_answer, write_leaves, written_number}
 use Rattle.roundtrip.specs.Back.{Told}
 use Rattle.roundtrip.specs.Faults.{too_long, too_short, ours, typed, rule_three, number_by, fault_by, fault_read}
@@ -93,7 +94,7 @@ module _ (protocol : Protocol) (d s : List ℕ) (flag : Bool) (value : ℕ) (mes
   unfolding write_answer
   written-number = go (ltb (length d) 255) (writable protocol s flag value message)
     where
-      go : (a b : Bool) → written_number (cond a ShortBuffer (cond b (Written (length (octets_written protocol s flag value message))) OutOfRange)) ≡ cond a 5 (cond b 0 4)
+      go : (a b : Bool) → written_number (cond a (Err ShortBuffer) (cond b (Ok (length (octets_written protocol s flag value message))) (Err OutOfRange))) ≡ cond a 5 (cond b 0 4)
       go true b = refl
       go false true = refl
       go false false = refl
@@ -102,7 +103,6 @@ module _ (protocol : Protocol) (d s : List ℕ) (flag : Bool) (value : ℕ) (mes
   pub refused-unchanged : (written_number (write_answer protocol d s flag value message) ≡ 0 → ⊥) → write_leaves protocol d s flag value message ≡ d
   refused-unchanged = go (write_answer protocol d s flag value message) (write_told protocol d s flag value message)
     where
-      go : (w : Wrote) → Told protocol d s flag value message (write_leaves protocol d s flag value message) w → (written_number w ≡ 0 → ⊥) → write_leaves protocol d s flag value message ≡ d
-      go (Written n) t refused = elim (refused refl) [ ]
-      go ShortBuffer t refused = t
-      go OutOfRange t refused = t
+      go : (w : Result ℕ Unwritten) → Told protocol d s flag value message (write_leaves protocol d s flag value message) w → (written_number w ≡ 0 → ⊥) → write_leaves protocol d s flag value message ≡ d
+      go (Ok n) t refused = elim (refused refl) [ ]
+      go (Err unwritten) t refused = t

@@ -9,12 +9,8 @@ use lib.Dec.{leb, ltb, eqb}
 use borrow.Author.Tests.{leb-true, ltb-true, eqb-true}
 use Rattle.codes.specs.declared.protocol.Protocol.{Protocol}
 use Rattle.codes.specs.declared.protocol.Protocol.TheVariants.{Broadcast, Group}
-use Rattle.message.specs.declared.Half.{Half}
-use Rattle.message.specs.declared.Half.TheVariants.{Absent, Present}
+use Rattle.std.specs.Prelude.{Option, Some, None}
 use Rattle.message.specs.Content.{
-  Optional,
-  absent,
-  present,
   Content,
   connect,
   get_status,
@@ -29,17 +25,17 @@ use Rattle.message.specs.Content.{
 use Rattle.message.specs.Tables.{format_tv, table, written, fits, rows_fit, count_fits, element_fits}
 use Rattle.limits.proofs.Tests.{and_left, and_right}
 
-abbrev pub HalfDrawn : Half → Type 0
-HalfDrawn Absent = Unit {0}
-HalfDrawn (Present value) = value < 16
+abbrev pub HalfDrawn : Option ℕ → Type 0
+HalfDrawn None = Unit {0}
+HalfDrawn (Some value) = value < 16
 
 -- A run of 1 to `most` octets.
 abbrev pub RunDrawn : ℕ → List ℕ → Type 0
 RunDrawn most octets = (1 ≤ length octets) × (length octets ≤ most)
 
-abbrev pub IdentityDrawn : Optional → Type 0
-IdentityDrawn absent = Unit {0}
-IdentityDrawn (present octets) = RunDrawn 8 octets
+abbrev pub IdentityDrawn : Option (List ℕ) → Type 0
+IdentityDrawn None = Unit {0}
+IdentityDrawn (Some octets) = RunDrawn 8 octets
 
 -- The cause of a TERMINATION REJECT, as the protocol draws it.
 abbrev pub RejectDrawn : Protocol → List ℕ → Type 0
@@ -62,9 +58,9 @@ run-drawn most octets e =
     let a : 2 ≤ 1 + length octets = leb-true _ _ (and_left (leb 2 (1 + length octets)) _ e) in
     let b : 1 + length octets ≤ 1 + most = leb-true _ _ (and_right (leb 2 (1 + length octets)) _ e) in (omega arith, omega arith)
 
-half_drawn : (identifier : ℕ) (half : Half) → element_fits (format_tv identifier half) ≡ true → HalfDrawn half
-half_drawn identifier Absent e = tt
-half_drawn identifier (Present value) e = ltb-true _ _ e
+half_drawn : (identifier : ℕ) (half : Option ℕ) → element_fits (format_tv identifier half) ≡ true → HalfDrawn half
+half_drawn identifier None e = tt
+half_drawn identifier (Some value) e = ltb-true _ _ e
 
 reject_drawn : (protocol : Protocol) (c : List ℕ) → rows_fit (table protocol (termination_reject c)) ≡ true → RejectDrawn protocol c
 unfolding table
@@ -74,8 +70,8 @@ reject_drawn Group c e = eqb-true _ _ (and_left (eqb (length c) 4) true e)
 rows-drawn : (protocol : Protocol) (c : Content) → rows_fit (table protocol c) ≡ true → Drawn protocol c
 unfolding table
 rows-drawn protocol (connect r o) e = ltb-true _ _ (and_left (ltb o 2) true (and_left (ltb o 2 && true) true e))
-rows-drawn protocol (get_status absent) e = tt
-rows-drawn protocol (get_status (present i)) e =
+rows-drawn protocol (get_status None) e = tt
+rows-drawn protocol (get_status (Some i)) e =
     let t : leb 3 (2 + length i) && leb (2 + length i) 10 ≡ true = and_left _ true e in
     let a : 3 ≤ 2 + length i = leb-true _ _ (and_left (leb 3 (2 + length i)) _ t) in
     let b : 2 + length i ≤ 10 = leb-true _ _ (and_right (leb 3 (2 + length i)) _ t) in (omega arith, omega arith)

@@ -12,25 +12,24 @@ use Rattle.octets.proofs.Rows.{Absent, Each, other, at_rows}
 use Rattle.codes.specs.declared.protocol.Protocol.{Protocol}
 use Rattle.codes.specs.declared.protocol.Protocol.TheVariants.{Broadcast, Group}
 use Rattle.octets.specs.declared.Run.{Run}
-use Rattle.element.specs.declared.Found.{Found}
-use Rattle.element.specs.declared.Found.TheVariants.{At, Nothing}
+use Rattle.std.specs.Prelude.{Option, Some, None, is_some, Result, Ok, Err}
+use Rattle.message.specs.declared.Fault.{Fault}
+use Rattle.message.specs.declared.Reading.{Reading}
+use Rattle.message.specs.declared.Unread.{Unread}
 use Rattle.element.specs.Elements.{within, element_from}
 use Rattle.element.specs.Counted.{counted_at}
 use Rattle.element.proofs.Elements.{within_says}
 use Rattle.message.specs.declared.Message.{Message}
 use Rattle.message.specs.declared.Message.TheVariants.{Status, Termination, TerminationReject}
 use Rattle.message.specs.declared.Fault.TheVariants.{TooShort, Discriminator, UnknownType, CutShort, WrongLength, MustBeKnown}
-use Rattle.message.specs.declared.Body.{Body}
-use Rattle.message.specs.declared.Body.TheVariants.{Is, Wrong}
-use Rattle.message.specs.declared.Reading.{Reading}
 use Rattle.message.specs.Answers.{fault_number, reading_number}
 use Rattle.message.specs.Reading.{octet, behind, unless_known, whole_of, on_counted, half_at, connect_of, get_status_of, immediate_reference_of, immediate_identity_of, immediate_setup_of, set_parameter_of, setup_of, status_of, termination_of, termination_reject_of, termination_request_of, kinds, body_of, read_as, read_message}
-use Rattle.roundtrip.specs.Faults.{Piece, octets, counted, Drawing, none, reject_piece, drawings, is_found, wrong_from, too_long, too_short, ours, is_drawn, typed, wrong_in, rule_three, number_by, fault_by, fault_read}
+use Rattle.roundtrip.specs.Faults.{Piece, octets, counted, Drawing, none, reject_piece, drawings, wrong_from, too_long, too_short, ours, is_drawn, typed, wrong_in, rule_three, number_by, fault_by, fault_read}
 
 -- The fault of what stands behind the first two octets.
-abbrev fault_in : Body → ℕ
-fault_in (Is message) = 0
-fault_in (Wrong fault) = fault_number fault
+abbrev fault_in : Result Message Fault → ℕ
+fault_in (Ok message) = 0
+fault_in (Err fault) = fault_number fault
 
 -- The same from a drawing: 3 where there is none, 4 where it is wrong.
 abbrev fault_of : Bool → Bool → ℕ
@@ -43,30 +42,30 @@ answer_of fault = cond (eqb fault 0) 0 13
 abbrev number_of : Bool → Bool → ℕ
 number_of type wrong = cond type (cond wrong 13 0) 13
 
-known-fault : (m : Message) (found : Found) → fault_in (unless_known m found) ≡ cond (is_found found) 4 0
-known-fault m Nothing = refl
-known-fault m (At at identifier) = refl
+known-fault : (m : Message) (found : Option (ℕ × ℕ)) → fault_in (unless_known m found) ≡ cond (is_some found) 4 0
+known-fault m None = refl
+known-fault m (Some (at, identifier)) = refl
 
 module _ (protocol : Protocol) (s : List ℕ) where
   -- A message that ends at `end`: the last piece is there, and no element behind it must be known.
-  whole-fault : (end : ℕ) (m : Message) → fault_in (whole_of s end m) ≡ cond (cond (leb end (length s)) (is_found (element_from s end 0 15)) true) 4 0
+  whole-fault : (end : ℕ) (m : Message) → fault_in (whole_of s end m) ≡ cond (cond (leb end (length s)) (is_some (element_from s end 0 15)) true) 4 0
   unfolding whole_of
   whole-fault end m = go (leb end (length s))
     where
       go : (t : Bool)
-          → fault_in (cond t (unless_known m (element_from s end 0 15)) (Wrong CutShort)) ≡ cond (cond t (is_found (element_from s end 0 15)) true) 4 0
+          → fault_in (cond t (unless_known m (element_from s end 0 15)) (Err CutShort)) ≡ cond (cond t (is_some (element_from s end 0 15)) true) 4 0
       go true = known-fault m (element_from s end 0 15)
       go false = refl
 
   -- The same where the octets are there already.
-  whole-there : (end : ℕ) (m : Message) → end ≤ length s → fault_in (whole_of s end m) ≡ cond (is_found (element_from s end 0 15)) 4 0
-  whole-there end m h = whole-fault end m ∙ ap (λ (t : Bool). cond (cond t (is_found (element_from s end 0 15)) true) 4 0) (le-leb _ _ h)
+  whole-there : (end : ℕ) (m : Message) → end ≤ length s → fault_in (whole_of s end m) ≡ cond (is_some (element_from s end 0 15)) 4 0
+  whole-there end m h = whole-fault end m ∙ ap (λ (t : Bool). cond (cond t (is_some (element_from s end 0 15)) true) 4 0) (le-leb _ _ h)
 
   abbrev counts : ℕ → Run
   counts at = record { start = at + 1; count = get_or s at 0 }
 
   -- A counted piece: what stands behind it decides, where the length octet is as drawn and the octets are there.
-  counted-fault : (at low high : ℕ) (go : Run → Body) (more : List Piece)
+  counted-fault : (at low high : ℕ) (go : Run → Result Message Fault) (more : List Piece)
       → (within (get_or s at 0) low high ≡ true → at + 1 + get_or s at 0 ≤ length s
       → fault_in (go (counts at)) ≡ cond (wrong_from s (at + 1 + get_or s at 0) more) 4 0)
       → fault_in (on_counted at go (counted_at s at low high)) ≡ cond (wrong_from s at (counted low high ∷ more)) 4 0
@@ -118,7 +117,7 @@ module _ (protocol : Protocol) (s : List ℕ) where
           rw (e, le-leb _ _ k) refl
 
   -- Behind a type of the table its drawing decides.
-  abbrev FaultIs : ℕ → Body → Type 0
+  abbrev FaultIs : ℕ → Result Message Fault → Type 0
   FaultIs kind body = fault_in body ≡ fault_of (is_drawn (rows kind none (drawings protocol))) (wrong_in s (rows kind none (drawings protocol)))
 
   each_kind : (kind : ℕ) → 2 ≤ length s → Each (FaultIs kind) kind (kinds protocol s)
@@ -154,19 +153,19 @@ module _ (protocol : Protocol) (s : List ℕ) where
   kind_fault : (kind : ℕ) → 2 ≤ length s → FaultIs kind (body_of protocol s kind)
   unfolding body_of
   kind_fault kind two =
-      at_rows (FaultIs kind) kind (Wrong UnknownType) (kinds protocol s) (each_kind kind two)
+      at_rows (FaultIs kind) kind (Err UnknownType) (kinds protocol s) (each_kind kind two)
       (λ absent. ap (λ (d : Drawing). fault_of (is_drawn d) (wrong_in s d)) (undrawn kind absent))
 
   -- ---- the whole
 
-  read_as_lem : (flag : Bool) (value : ℕ) (b : Body) → (fault_read (read_as flag value b) ≡ fault_in b) × (reading_number (read_as flag value b) ≡ answer_of (fault_in b))
-  read_as_lem flag value (Is message) = (refl, refl)
-  read_as_lem flag value (Wrong TooShort) = (refl, refl)
-  read_as_lem flag value (Wrong Discriminator) = (refl, refl)
-  read_as_lem flag value (Wrong UnknownType) = (refl, refl)
-  read_as_lem flag value (Wrong CutShort) = (refl, refl)
-  read_as_lem flag value (Wrong (WrongLength at)) = (refl, refl)
-  read_as_lem flag value (Wrong (MustBeKnown at identifier)) = (refl, refl)
+  read_as_lem : (flag : Bool) (value : ℕ) (b : Result Message Fault) → (fault_read (read_as flag value b) ≡ fault_in b) × (reading_number (read_as flag value b) ≡ answer_of (fault_in b))
+  read_as_lem flag value (Ok message) = (refl, refl)
+  read_as_lem flag value (Err TooShort) = (refl, refl)
+  read_as_lem flag value (Err Discriminator) = (refl, refl)
+  read_as_lem flag value (Err UnknownType) = (refl, refl)
+  read_as_lem flag value (Err CutShort) = (refl, refl)
+  read_as_lem flag value (Err (WrongLength at)) = (refl, refl)
+  read_as_lem flag value (Err (MustBeKnown at identifier)) = (refl, refl)
 
   number_of_lem : (type wrong : Bool) → answer_of (fault_of type wrong) ≡ number_of type wrong
   number_of_lem true true = refl
@@ -174,7 +173,7 @@ module _ (protocol : Protocol) (s : List ℕ) where
   number_of_lem false wrong = refl
 
   -- Document 01's numbers of a reading, from its conditions.
-  abbrev Numbered : Reading → Type 0
+  abbrev Numbered : Result Reading Unread → Type 0
   Numbered r =
       (reading_number r ≡ number_by (too_long s) (too_short s) (ours protocol s) (typed protocol s) (rule_three protocol s))
       × (fault_read r ≡ fault_by (too_long s) (too_short s) (ours protocol s) (typed protocol s) (rule_three protocol s))
@@ -191,7 +190,7 @@ module _ (protocol : Protocol) (s : List ℕ) where
       cases false false true true p q r t = rw (p, q, r, t) (refl, refl)
       cases false false true false p q r t =
           let kind : ℕ = octet 2 s % 64 in
-          let b : Body = body_of protocol s kind in
+          let b : Result Message Fault = body_of protocol s kind in
           let f : FaultIs kind b = kind_fault kind (ltb-false _ _ q) in
           let h = read_as_lem (leb 128 (octet 1 s)) (octet 1 s / 16 % 8) b in
           let drawn : Drawing = rows kind none (drawings protocol) in

@@ -25,12 +25,8 @@ use Rattle.message.specs.declared.Message.TheVariants.{
   TerminationReject,
   TerminationRequest,
 }
-use Rattle.message.specs.declared.Identity.TheVariants.{Absent as Anonymous, Present as Named}
-use Rattle.message.specs.declared.Body.TheVariants.{Is}
-use Rattle.message.specs.declared.Reading.TheVariants.{Is as Reads}
+use Rattle.std.specs.Prelude.{Some, None, Ok}
 use Rattle.message.specs.Content.{
-  absent,
-  present,
   Content,
   content_of,
   runs_lie,
@@ -48,7 +44,6 @@ use Rattle.message.specs.Content.{
 use Rattle.message.specs.Tables.{head_of, type_of, table, counted, written, fits}
 use Rattle.message.specs.Reading.{body_of, read_message}
 use Rattle.message.proofs.Bodies.{head_good}
-use Rattle.writing.specs.declared.Wrote.TheVariants.{Written}
 use Rattle.writing.specs.Writing.{writable, write_answer, write_leaves}
 use Rattle.writing.specs.Bodies.{half_octets}
 use Rattle.limits.proofs.Tests.{and_right}
@@ -90,19 +85,19 @@ head_value protocol false v h = let d : discriminator protocol ≤ 1 = discrimin
 -- Behind a first octet that was written, and a type, the body decides.
 module _ (protocol : Protocol) (f : Bool) (v kind : ℕ) (x : List ℕ) (c : Content) (m : Message) (six : v ≤ 6) (low : kind < 64)
     (few : length (head_of protocol f v ∷ kind ∷ x) ≤ 251) where
-  gives : Is m ≡ body_of protocol (head_of protocol f v ∷ kind ∷ x) kind → content_of (head_of protocol f v ∷ kind ∷ x) m ≡ c → GivesBack protocol (head_of protocol f v ∷ kind ∷ x) f v c
+  gives : Ok m ≡ body_of protocol (head_of protocol f v ∷ kind ∷ x) kind → content_of (head_of protocol f v ∷ kind ∷ x) m ≡ c → GivesBack protocol (head_of protocol f v ∷ kind ∷ x) f v c
   gives e same =
       let s : List ℕ = head_of protocol f v ∷ kind ∷ x in
       let q : kind % 64 ≡ kind = omega arith in
-      let r : read_message protocol s ≡ Reads f v m =
-      sym (head_good protocol s (Is m) few (omega arith) (head_low protocol f v) (omega arith) (rw q e)) ∙ rw (head_flag protocol f v six, head_value protocol f v six) in
+      let r : read_message protocol s ≡ Ok (record { flag = f; value = v; message = m }) =
+      sym (head_good protocol s (Ok m) few (omega arith) (head_low protocol f v) (omega arith) (rw q e)) ∙ rw (head_flag protocol f v six, head_value protocol f v six) in
       subst (Says s f v c) (sym r) (refl, refl, same)
 
 -- The octets of a message, with the empty end of its last row left out.
 plain : (protocol : Protocol) (f : Bool) (v : ℕ) (c : Content) → List ℕ
 plain protocol f v (connect r o) = head_of protocol f v ∷ 0x33 ∷ r.first ∷ r.second ∷ r.third ∷ r.fourth ∷ (o + 16 * 0) ∷ []
-plain protocol f v (get_status absent) = head_of protocol f v ∷ 0x39 ∷ []
-plain protocol f v (get_status (present i)) = head_of protocol f v ∷ 0x39 ∷ 0x17 ∷ counted i
+plain protocol f v (get_status None) = head_of protocol f v ∷ 0x39 ∷ []
+plain protocol f v (get_status (Some i)) = head_of protocol f v ∷ 0x39 ∷ 0x17 ∷ counted i
 plain protocol f v (immediate_setup k c i r) = immediate (head_of protocol f v) (0 + 16 * k) c i r
 plain protocol f v (set_parameter a) = head_of protocol f v ∷ 0x3A ∷ (a + 16 * 0) ∷ []
 plain protocol f v (setup r) = head_of protocol f v ∷ 0x32 ∷ reference_octets r
@@ -119,8 +114,8 @@ reject_is Group f v c = ap (λ (x : List ℕ). head_of Group f v ∷ 0x36 ∷ x)
 plain_is : (protocol : Protocol) (f : Bool) (v : ℕ) (c : Content) → written protocol f v c ≡ plain protocol f v c
 unfolding written type_of table plain
 plain_is protocol f v (connect r o) = refl
-plain_is protocol f v (get_status absent) = refl
-plain_is protocol f v (get_status (present i)) = ap (λ (x : List ℕ). head_of protocol f v ∷ 0x39 ∷ 0x17 ∷ length i ∷ x) (append-nil i)
+plain_is protocol f v (get_status None) = refl
+plain_is protocol f v (get_status (Some i)) = ap (λ (x : List ℕ). head_of protocol f v ∷ 0x39 ∷ 0x17 ∷ length i ∷ x) (append-nil i)
 plain_is protocol f v (immediate_setup k c i r) = refl
 plain_is protocol f v (set_parameter a) = refl
 plain_is protocol f v (setup r) = refl
@@ -140,11 +135,11 @@ plain_back : (protocol : Protocol) (f : Bool) (v : ℕ) (c : Content) → v ≤ 
 unfolding plain
 plain_back protocol f v (connect r o) h d few =
     gives protocol f v 0x33 _ (connect r o) (Connect r o) h (omega arith) few (connect-back protocol (head_of protocol f v) r o (o + 16 * 0) d (omega arith)) refl
-plain_back protocol f v (get_status absent) h d few =
-    gives protocol f v 0x39 _ (get_status absent) (GetStatus Anonymous) h (omega arith) few (bare-back protocol (head_of protocol f v)) refl
-plain_back protocol f v (get_status (present i)) h d few =
-    gives protocol f v 0x39 _ (get_status (present i)) (GetStatus (Named (run 4 (length i)))) h (omega arith) few
-    (identified-back (head_of protocol f v) i d.0 d.1 protocol) (ap (λ (j : List ℕ). get_status (present j)) (take-length i))
+plain_back protocol f v (get_status None) h d few =
+    gives protocol f v 0x39 _ (get_status None) (GetStatus None) h (omega arith) few (bare-back protocol (head_of protocol f v)) refl
+plain_back protocol f v (get_status (Some i)) h d few =
+    gives protocol f v 0x39 _ (get_status (Some i)) (GetStatus (Some (run 4 (length i)))) h (omega arith) few
+    (identified-back (head_of protocol f v) i d.0 d.1 protocol) (ap (λ (j : List ℕ). get_status (Some j)) (take-length i))
 plain_back protocol f v (immediate_setup k c i r) h d few =
     gives protocol f v 0x31 _ (immediate_setup k c i r) (ImmediateSetup k c (run 8 (length i)) r) h (omega arith) few
     (immediate-back protocol (head_of protocol f v) k (0 + 16 * k) c i r d.0 (omega arith) d.1.0 d.1.1)
@@ -201,7 +196,7 @@ write_told protocol d s f v m = go (ltb (length d) 255) (writable protocol s f v
         })
 
 -- Reading what `write` wrote gives flag, transaction value and message back, whatever stood in the buffer.
-pub written_back : (protocol : Protocol) (d s : List ℕ) (f : Bool) (v : ℕ) (m : Message) (n : ℕ) → write_answer protocol d s f v m ≡ Written n
+pub written_back : (protocol : Protocol) (d s : List ℕ) (f : Bool) (v : ℕ) (m : Message) (n : ℕ) → write_answer protocol d s f v m ≡ Ok n
     → GivesBack protocol (take n (write_leaves protocol d s f v m)) f v (content_of s m)
 written_back protocol d s f v m n e =
     let t : Stood protocol d s f v m (write_leaves protocol d s f v m) n = subst (Told protocol d s f v m (write_leaves protocol d s f v m)) e (write_told protocol d s f v m) in

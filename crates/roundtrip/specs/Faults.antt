@@ -1,6 +1,6 @@
 -- Document 01, "Answer numbers", message reading alone, in so many words: "answers 6, else 0 and the message .., else 13 with the first fault: 1 under 2 octets,
 -- 2 discriminator, 3 type, 4 as rule 3". Nothing here goes by what the reader makes of the octets.
-use Rattle.std.specs.Prelude.{ℕ, ◌+◌, ◌%◌, List, [], ◌∷◌, Bool, true, false, cond, length, get_or, leb, ltb, eqb}
+use Rattle.std.specs.Prelude.{ℕ, ◌+◌, ◌%◌, List, [], ◌∷◌, Bool, true, false, cond, length, get_or, leb, ltb, eqb, is_some, Result, Ok, Err}
 use Rattle.octets.specs.Rows.{rows}
 use Rattle.codes.specs.declared.protocol.Protocol.{Protocol}
 use Rattle.codes.specs.declared.protocol.Protocol.TheVariants.{Broadcast, Group}
@@ -16,11 +16,10 @@ use Rattle.codes.specs.MessageTypes.{
   GET-STATUS,
   SET-PARAMETER,
 }
-use Rattle.element.specs.declared.Found.{Found}
-use Rattle.element.specs.declared.Found.TheVariants.{At, Nothing}
-use Rattle.element.specs.Elements.{within, element_from}
 use Rattle.message.specs.declared.Reading.{Reading}
-use Rattle.message.specs.declared.Reading.TheVariants.{Is, Unreadable, TooLong}
+use Rattle.message.specs.declared.Unread.{Unread}
+use Rattle.message.specs.declared.Unread.TheVariants.{TooLong, Unreadable}
+use Rattle.element.specs.Elements.{within, element_from}
 use Rattle.message.specs.Answers.{fault_number}
 use Rattle.message.specs.Reading.{octet}
 
@@ -53,14 +52,10 @@ drawings protocol =
     (TERMINATION-REQUEST, draws (octets 4 ∷ [])) ∷
     []
 
-abbrev pub is_found : Found → Bool
-is_found Nothing = false
-is_found (At at identifier) = true
-
 -- Rule 3: "a mandatory part is wrong only if it is cut short or a length octet lies outside what its table draws"; and behind it no element may stand whose
 -- identifier has bits 8 to 5 all zero. The pieces begin at place `at`.
 unfoldable pub wrong_from : List ℕ → ℕ → List Piece → Bool
-wrong_from s at [] = is_found (element_from s at 0 15)
+wrong_from s at [] = is_some (element_from s at 0 15)
 wrong_from s at (octets count ∷ more) = cond (leb (at + count) (length s)) (wrong_from s (at + count) more) true
 wrong_from s at (counted least most ∷ more) =
     cond (leb (length s) at) true
@@ -106,7 +101,7 @@ abbrev pub fault_by : Bool → Bool → Bool → Bool → Bool → ℕ
 fault_by long short our type wrong = cond long 0 (cond short 1 (cond our (cond type (cond wrong 4 0) 3) 2))
 
 -- The fault number of a reading, and 0 where there is none.
-abbrev pub fault_read : Reading → ℕ
-fault_read (Is flag value message) = 0
-fault_read (Unreadable fault) = fault_number fault
-fault_read TooLong = 0
+abbrev pub fault_read : Result Reading Unread → ℕ
+fault_read (Ok read) = 0
+fault_read (Err (Unreadable fault)) = fault_number fault
+fault_read (Err TooLong) = 0

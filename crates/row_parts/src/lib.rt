@@ -21,8 +21,8 @@ pub const ENDS: Decision = Decision::Take(Taken {
     next: State::U0,
     actions: action::NONE,
     sends: Send::Nothing,
-    stops: Timer::NoTimer,
-    sets: Timer::NoTimer,
+    stops: None,
+    sets: None,
     stores: Stores::Nothing,
     memory: Memory::Keep,
     note: Note::Nothing,
@@ -33,8 +33,8 @@ pub const ENDS_ABORTING: Decision = Decision::Take(Taken {
     next: State::U0,
     actions: action::ABORT,
     sends: Send::Nothing,
-    stops: Timer::NoTimer,
-    sets: Timer::NoTimer,
+    stops: None,
+    sets: None,
     stores: Stores::Nothing,
     memory: Memory::Keep,
     note: Note::Nothing,
@@ -45,8 +45,8 @@ pub const ENDS_RELEASING: Decision = Decision::Take(Taken {
     next: State::U0,
     actions: action::RELEASE,
     sends: Send::Nothing,
-    stops: Timer::NoTimer,
-    sets: Timer::NoTimer,
+    stops: None,
+    sets: None,
     stores: Stores::Nothing,
     memory: Memory::Keep,
     note: Note::Nothing,
@@ -57,8 +57,8 @@ pub const ENDS_INFORMING_ABORTING: Decision = Decision::Take(Taken {
     next: State::U0,
     actions: action::INFORM + action::ABORT,
     sends: Send::Nothing,
-    stops: Timer::NoTimer,
-    sets: Timer::NoTimer,
+    stops: None,
+    sets: None,
     stores: Stores::Nothing,
     memory: Memory::Keep,
     note: Note::Nothing,
@@ -69,14 +69,13 @@ fn asking(table: Table) -> Memory
     ensures { result ≡ asking table }
 {
     match table {
-        Table::First => Memory::Keep,
-        Table::Second => Memory::Remember,
-        Table::Third => Memory::Remember,
-        Table::Group => Memory::Keep,
+        Table::First | Table::Group => Memory::Keep,
+        Table::Second | Table::Third => Memory::Remember,
     }
 }
 
 // 4, terminate, in U1 and U2: where ORIG is true.
+#[tactic(auto, unfolding(transitions::specs::Table::happened_in))]
 pub fn terminated(table: Table, orig: bool) -> Decision
     ensures { result ≡ happened_in (rows_of Broadcast table) U2 (originating orig) 4 }
 {
@@ -86,8 +85,8 @@ pub fn terminated(table: Table, orig: bool) -> Decision
             next: State::U5,
             actions: action::NONE,
             sends: Send::TerminationRequest,
-            stops: Timer::MmEst,
-            sets: Timer::Term,
+            stops: Some(Timer::MmEst),
+            sets: Some(Timer::Term),
             stores: Stores::Nothing,
             memory,
             note: Note::Nothing,
@@ -106,19 +105,18 @@ pub fn where_true(holds: bool, taken: Decision) -> Decision
     Decision::NoStep
 }
 
-// The timer of an invitation: from the third table on T_pres.
-fn inviting(table: Table) -> Timer
+// The timer of an invitation, if it has one: from the third table on T_pres.
+fn inviting(table: Table) -> Option<Timer>
     ensures { result ≡ inviting table }
 {
     match table {
-        Table::First => Timer::NoTimer,
-        Table::Second => Timer::NoTimer,
-        Table::Third => Timer::Pres,
-        Table::Group => Timer::NoTimer,
+        Table::First | Table::Second | Table::Group => None,
+        Table::Third => Some(Timer::Pres),
     }
 }
 
 // 10, broadcast notified, in U0. Its row asks for nothing of the context.
+#[tactic(auto, unfolding(transitions::specs::Table::happened_in))]
 pub fn notified(table: Table) -> Decision
     ensures { result ≡ happened_in (rows_of Broadcast table) U0 cleared 10 }
 {
@@ -127,7 +125,7 @@ pub fn notified(table: Table) -> Decision
         next: State::U3,
         actions: action::INFORM,
         sends: Send::Nothing,
-        stops: Timer::NoTimer,
+        stops: None,
         sets,
         stores: Stores::ValueAndReference,
         memory: Memory::Keep,
@@ -136,6 +134,7 @@ pub fn notified(table: Table) -> Decision
 }
 
 // 3, join, in U3. Its row asks for nothing of the context.
+#[tactic(auto, unfolding(transitions::specs::Table::happened_in))]
 pub fn joined(table: Table) -> Decision
     ensures { result ≡ happened_in (rows_of Broadcast table) U3 cleared 3 }
 {
@@ -145,7 +144,7 @@ pub fn joined(table: Table) -> Decision
         actions: action::REQUEST_GROUP_RECEIVE,
         sends: Send::Nothing,
         stops,
-        sets: Timer::ConnReq,
+        sets: Some(Timer::ConnReq),
         stores: Stores::Nothing,
         memory: Memory::Keep,
         note: Note::Nothing,
@@ -153,14 +152,13 @@ pub fn joined(table: Table) -> Decision
 }
 
 // 19, expiry of T_pres: the invitation is forgotten. The first two tables have no such row.
+#[tactic(auto, unfolding(transitions::specs::Table::happened_in))]
 pub fn forgotten(table: Table, context: Context) -> Decision
     ensures { result ≡ happened_in (rows_of Broadcast table) U3 context 19 }
 {
     let timers = context.timers;
     match table {
-        Table::First => Decision::NoStep,
-        Table::Second => Decision::NoStep,
+        Table::First | Table::Second | Table::Group => Decision::NoStep,
         Table::Third => where_true(timers.pres, ENDS),
-        Table::Group => Decision::NoStep,
     }
 }

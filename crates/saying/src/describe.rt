@@ -1,38 +1,19 @@
 // Words for what messages hold: kinds and their directions (8.1 to 8.9), causes (table 9.4), call states (6.1.2.1), state attributes (9.4.6). Where broadcast
 // calls (GSM 04.69) and group calls (24.068) differ, they go by the protocol.
 // The words of a table are the lines of one text, and a match gives the line.
-ghost use Rattle.std.specs.Prelude.{◌<◌, ◌≤◌, length};
-
 use crate::{STDOUT_FILENO, tell, tell_number, tell_octet, tell_place, write_text};
 use causes::{Cause, cause_said};
 use codes::attributes::parameters_of;
 use codes::message_type;
 use codes::protocol::Protocol;
-use codes::state::{CallState, State, call_state_of};
-use text::words::{find, part};
-
-// Where the line behind the one at `at` starts, or the text's end.
-fn line_behind(text: &[u8], at: usize) -> usize
-    requires { at ≤ length text.now }
-    ensures { result ≤ length text.now }
-{
-    let count = find(&text[at..], b'\n');
-    if count < text.len() - at {
-        return at + count + 1;
-    }
-    text.len()
-}
+use codes::state::{State, call_state_of};
 
 // Writes a line of a text, counted from 0; nothing where the text has fewer.
 pub fn write_line(descriptor: i32, text: &[u8], number: u8) {
-    let mut at = 0;
-    let mut left = number;
-    while 0 < left {
-        at = line_behind(text, at);
-        left -= 1;
+    let mut lines = text.split(|character| *character == b'\n');
+    if let Some(line) = lines.nth(usize::from(number)) {
+        write_text(descriptor, line);
     }
-    let count = find(part(text, at, text.len() - at), b'\n');
-    write_text(descriptor, part(text, at, count));
 }
 
 fn tell_line(text: &[u8], number: u8) {
@@ -225,8 +206,8 @@ pub fn tell_call_state(protocol: Protocol, code: u8) {
     tell_number(code);
     tell(b", ");
     match call_state_of(protocol, code) {
-        CallState::Is(state) => tell_state(protocol, state),
-        CallState::Reserved => tell(b"reserved"),
+        Some(state) => tell_state(protocol, state),
+        None => tell(b"reserved"),
     }
     tell(b"\n");
 }
@@ -253,7 +234,7 @@ pub fn tell_attributes(half: u8) {
 
 // The place of one octet, or of several, counted from 1: `octet 3: `, `octets 3 to 6: `.
 pub fn tell_places(start: usize, count: usize) {
-    let first = std::num::wrapping_add_usize(start, 1);
+    let first = start.wrapping_add(1);
     if count <= 1 {
         tell(b"octet ");
         tell_place(first);
@@ -263,7 +244,7 @@ pub fn tell_places(start: usize, count: usize) {
     tell(b"octets ");
     tell_place(first);
     tell(b" to ");
-    tell_place(std::num::wrapping_add_usize(start, count));
+    tell_place(start.wrapping_add(count));
     tell(b": ");
 }
 

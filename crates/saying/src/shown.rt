@@ -1,6 +1,5 @@
 // Texts that others wrote, such as names of files: a terminal is told none of their characters that it would take for a command. These are told as \xNN.
 use crate::{STDERR_FILENO, STDOUT_FILENO, write_text};
-use text::words::part;
 
 // What is told as it is: characters of ASCII that can be printed, or letters beyond ASCII too.
 #[derive(Clone, Copy)]
@@ -20,27 +19,20 @@ pub fn complain_name(name: &[u8]) {
 
 pub fn write_shown(descriptor: i32, text: &[u8], plain: Plain) {
     let mut before = 0;
-    let mut at = 0;
-    while at < text.len() {
-        let octet = text[at];
-        if is_plain(plain, before, octet, octet_behind(text, at)) {
-            write_text(descriptor, part(text, at, 1));
-            before = octet;
+    for (at, octet) in text.iter().enumerate() {
+        if is_plain(plain, before, *octet, octet_behind(text, at)) {
+            write_text(descriptor, &[*octet]);
+            before = *octet;
         } else {
-            write_escaped(descriptor, octet);
+            write_escaped(descriptor, *octet);
             before = 0;
         }
-        at += 1;
     }
 }
 
 // The octet behind a place, 0 at the end.
 fn octet_behind(text: &[u8], at: usize) -> u8 {
-    let next = std::num::wrapping_add_usize(at, 1);
-    if next < text.len() {
-        return text[next];
-    }
-    0
+    text.get(at.wrapping_add(1)).copied().unwrap_or(0)
 }
 
 // Whether an octet is told as it is. `before` is the one before it if that was.

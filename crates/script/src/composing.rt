@@ -1,26 +1,22 @@
 // A message that is received, composed of what a line says of it; what the line leaves out is taken from the call that the radio is in.
-use crate::names::place_among;
-use crate::noting::{
-    CAUSE, COMM, DATT, FLAG, IDENTITY, ORIG, ORIGINATOR, REFERENCE, UATT, VALUE, noted_word,
-};
-use crate::words::Word;
-use crate::{Call, Fault, Unfit};
+ghost use Rattle.std.specs.Prelude.{◌≤◌, IfOk};
+
+use crate::noting::{CAUSE, COMM, DATT, FLAG, IDENTITY, ORIG, ORIGINATOR, REFERENCE, UATT, VALUE};
+use crate::words::{Word, text_of};
+use crate::{Call, Fault, Unfit, Wrong, four_octets};
 use codes::attributes::{Parameters, attributes_of, parameters_of};
 use codes::message_type;
 use codes::protocol::Protocol;
-use message::{Identity, Message};
+use message::Message;
 use octets::{Reference, Run};
 use text::decimal::number_of;
 use text::hex::read_hex;
-use text::words::part;
-use writing::{Wrote, write};
+use writing::write;
 
-// How many octets the message has; or what is wrong, and at which word.
-#[derive(Clone, Copy)]
-pub(crate) enum Composed {
-    Count(usize),
-    Torn(Fault, Word),
-}
+const TOO_LONG: Wrong = Wrong {
+    fault: Fault::TooLong,
+    word: None,
+};
 
 // The transaction of a message.
 #[derive(Clone, Copy)]
@@ -29,55 +25,46 @@ struct Transaction {
     value: u8,
 }
 
-#[derive(Clone, Copy)]
-enum Chosen {
-    Is(Transaction),
-    Wrong(Fault, Word),
+// A truth value by its word.
+fn truth_of(text: &[u8]) -> Option<bool> {
+    match text {
+        b"T" | b"t" | b"1" | b"true" | b"yes" => Some(true),
+        b"F" | b"f" | b"0" | b"false" | b"no" => Some(false),
+        _ => None,
+    }
 }
 
-// A truth value by its word: 1 or 0, and 2 where it is none.
-fn truth_of(text: &[u8]) -> u8 {
-    if 0 < place_among(b"T t 1 true yes", text) {
-        return 1;
+// The number that a word says, at most `most`.
+fn number_at(line: &[u8], word: Option<Word>, most: u8, fault: Fault) -> Result<u8, Wrong>
+    ensures { IfOk result (λ number. number ≤ most) }
+{
+    match number_of(text_of(line, word), u64::from(most)) {
+        Some(number) => Ok(number as u8),
+        None => Err(Wrong { fault, word }),
     }
-    if 0 < place_among(b"F f 0 false no", text) {
-        return 0;
-    }
-    2
 }
 
-// The value that the line says, or else that of the call: where there is none, the line must say it.
-fn choose_transaction(call: Call, line: &[u8], places: &[usize; 12]) -> Chosen {
-    let word = noted_word(line, places[VALUE]);
-    if word.count == 0 {
-        if !call.on {
-            return Chosen::Wrong(Fault::Named(Unfit::NoCall), word);
-        }
-        return choose_flag(call, line, places[FLAG], call.value);
-    }
-    let number = number_of(part(line, word.start, word.count), 6);
-    if !number.good {
-        return Chosen::Wrong(Fault::Value, word);
-    }
-    choose_flag(call, line, places[FLAG], number.value as u8)
-}
-
-fn choose_flag(call: Call, line: &[u8], place: usize, value: u8) -> Chosen {
-    let word = noted_word(line, place);
-    if word.count == 0 {
-        return Chosen::Is(Transaction {
-            flag: call.flag,
-            value,
+// The value and the flag that the line says, or else those of the call: where there is none, the line must say the value.
+fn choose_transaction(
+    call: Call,
+    line: &[u8],
+    noted: &[Option<Word>; 12],
+) -> Result<Transaction, Wrong> {
+    if noted[VALUE].is_none() && !call.on {
+        return Err(Wrong {
+            fault: Fault::Named(Unfit::NoCall),
+            word: None,
         });
     }
-    let number = number_of(part(line, word.start, word.count), 1);
-    if !number.good {
-        return Chosen::Wrong(Fault::Named(Unfit::Flag), word);
-    }
-    Chosen::Is(Transaction {
-        flag: number.value == 1,
-        value,
-    })
+    let value = match noted[VALUE] {
+        None => call.value,
+        word => number_at(line, word, 6, Fault::Value)?,
+    };
+    let flag = match noted[FLAG] {
+        None => call.flag,
+        word => number_at(line, word, 1, Fault::Named(Unfit::Flag))? == 1,
+    };
+    Ok(Transaction { flag, value })
 }
 
 // Writes a message whose runs lie in `source` over the start of `octets`. Where these are under 255, there is no room.
@@ -87,7 +74,7 @@ fn finish(
     message: Message,
     source: &[u8],
     octets: &mut [u8],
-) -> Composed {
+) -> Result<usize, Wrong> {
     match write(
         protocol,
         octets,
@@ -96,9 +83,8 @@ fn finish(
         transaction.value,
         message,
     ) {
-        Wrote::Written(count) => Composed::Count(count),
-        Wrote::ShortBuffer => Composed::Torn(Fault::TooLong, noted_word(source, 0)),
-        Wrote::OutOfRange => Composed::Torn(Fault::TooLong, noted_word(source, 0)),
+        Ok(count) => Ok(count),
+        Err(_) => Err(TOO_LONG),
     }
 }
 
@@ -108,15 +94,11 @@ fn compose_cause(
     transaction: Transaction,
     kind: u8,
     line: &[u8],
-    place: usize,
+    word: Option<Word>,
     octets: &mut [u8],
-) -> Composed {
-    let word = noted_word(line, place);
-    let number = number_of(part(line, word.start, word.count), 127);
-    if !number.good {
-        return Composed::Torn(Fault::Named(Unfit::Cause), word);
-    }
-    let source = [128 + number.value as u8, 0, 0, 0];
+) -> Result<usize, Wrong> {
+    let number = number_at(line, word, 127, Fault::Named(Unfit::Cause))?;
+    let source = [128 + number, 0, 0, 0];
     if kind == message_type::TERMINATION {
         let cause = Run { start: 0, count: 1 };
         let message = Message::Termination { cause };
@@ -142,27 +124,23 @@ fn compose_get_status(
     protocol: Protocol,
     transaction: Transaction,
     line: &[u8],
-    place: usize,
+    word: Option<Word>,
     octets: &mut [u8],
-) -> Composed {
-    let word = noted_word(line, place);
+) -> Result<usize, Wrong> {
+    if word.is_none() {
+        let message = Message::GetStatus { identity: None };
+        return finish(protocol, transaction, message, line, octets);
+    }
     let mut source = [0u8; 8];
-    if word.count == 0 {
-        let message = Message::GetStatus {
-            identity: Identity::Absent,
-        };
-        return finish(protocol, transaction, message, &source, octets);
-    }
-    let spelt = read_hex(part(line, word.start, word.count), true, &mut source, 0);
-    if !spelt.good {
-        return Composed::Torn(Fault::Named(Unfit::Identity), word);
-    }
-    let named = Run {
-        start: 0,
-        count: spelt.count,
+    let Some(count) = read_hex(text_of(line, word), true, &mut source, 0) else {
+        return Err(Wrong {
+            fault: Fault::Named(Unfit::Identity),
+            word,
+        });
     };
+    let named = Run { start: 0, count };
     let message = Message::GetStatus {
-        identity: Identity::Present(named),
+        identity: Some(named),
     };
     finish(protocol, transaction, message, &source, octets)
 }
@@ -173,70 +151,37 @@ fn compose_connect(
     transaction: Transaction,
     call: Call,
     line: &[u8],
-    places: &[usize; 12],
+    noted: &[Option<Word>; 12],
     octets: &mut [u8],
-) -> Composed {
-    let word = noted_word(line, places[ORIGINATOR]);
-    let originator = truth_or(line, word, true);
-    if originator == 2 {
-        return Composed::Torn(Fault::Named(Unfit::Truth), word);
-    }
-    let named = noted_word(line, places[REFERENCE]);
-    let mut four = [0u8; 4];
-    let spelt = read_hex(part(line, named.start, named.count), true, &mut four, 0);
-    let own = call.on & (named.count == 0);
-    if (spelt.count != 4) & !own {
-        return Composed::Torn(Fault::Reference, named);
-    }
-    let reference = if own {
-        call.reference
-    } else {
-        Reference {
-            first: four[0],
-            second: four[1],
-            third: four[2],
-            fourth: four[3],
-        }
+) -> Result<usize, Wrong> {
+    let originator = truth_or(line, noted[ORIGINATOR], true)?;
+    let reference = match noted[REFERENCE] {
+        None if call.on => call.reference,
+        word => reference_at(line, word)?,
     };
     let message = Message::Connect {
         reference,
-        originator,
+        originator: u8::from(originator),
     };
-    finish(protocol, transaction, message, &four, octets)
+    finish(protocol, transaction, message, line, octets)
 }
 
-// What a word says, 1 or 0 and 2 where that can't be read; where the field is left out, what there is.
-fn truth_or(line: &[u8], word: Word, there: bool) -> u8 {
-    if 0 < word.count {
-        return truth_of(part(line, word.start, word.count));
-    }
-    if there { 1 } else { 0 }
+fn reference_at(line: &[u8], word: Option<Word>) -> Result<Reference, Wrong> {
+    four_octets(text_of(line, word)).ok_or(Wrong {
+        fault: Fault::Reference,
+        word,
+    })
 }
 
-// Whether a truth value is given that can't be read.
-fn is_unread(line: &[u8], place: usize) -> bool {
-    truth_or(line, noted_word(line, place), true) == 2
-}
-
-// The first of the four parameters that can't be read, or a word of no characters.
-fn unread_parameter(line: &[u8], places: &[usize; 12]) -> Word {
-    if is_unread(line, places[ORIG]) {
-        return noted_word(line, places[ORIG]);
+// What a word says; where the field is left out, what there is.
+fn truth_or(line: &[u8], word: Option<Word>, there: bool) -> Result<bool, Wrong> {
+    if word.is_none() {
+        return Ok(there);
     }
-    if is_unread(line, places[COMM]) {
-        return noted_word(line, places[COMM]);
-    }
-    if is_unread(line, places[DATT]) {
-        return noted_word(line, places[DATT]);
-    }
-    if is_unread(line, places[UATT]) {
-        return noted_word(line, places[UATT]);
-    }
-    noted_word(line, 0)
-}
-
-fn parameter(line: &[u8], place: usize, there: bool) -> bool {
-    truth_or(line, noted_word(line, place), there) == 1
+    truth_of(text_of(line, word)).ok_or(Wrong {
+        fault: Fault::Named(Unfit::Truth),
+        word,
+    })
 }
 
 // SET PARAMETER sets all four; those that the line leaves out it sets to what they are. It sets one at least.
@@ -245,71 +190,55 @@ fn compose_set_parameter(
     transaction: Transaction,
     before: u8,
     line: &[u8],
-    places: &[usize; 12],
+    noted: &[Option<Word>; 12],
     octets: &mut [u8],
-) -> Composed {
-    let first = (places[ORIG] == 0) & (places[COMM] == 0);
-    let last = (places[DATT] == 0) & (places[UATT] == 0);
-    if first & last {
-        return Composed::Torn(Fault::Named(Unfit::Parameter), noted_word(line, 0));
+) -> Result<usize, Wrong> {
+    let first = noted[ORIG].is_none() && noted[COMM].is_none();
+    let last = noted[DATT].is_none() && noted[UATT].is_none();
+    if first && last {
+        return Err(Wrong {
+            fault: Fault::Named(Unfit::Parameter),
+            word: None,
+        });
     }
-    let unread = unread_parameter(line, places);
-    if 0 < unread.count {
-        return Composed::Torn(Fault::Named(Unfit::Truth), unread);
-    }
-    let attributes = attributes_in(before, line, places);
+    let attributes = attributes_in(before, line, noted)?;
     let message = Message::SetParameter { attributes };
     finish(protocol, transaction, message, line, octets)
 }
 
 // The state attributes that a line gives instead of those before.
-fn attributes_in(before: u8, line: &[u8], places: &[usize; 12]) -> u8 {
+fn attributes_in(before: u8, line: &[u8], noted: &[Option<Word>; 12]) -> Result<u8, Wrong> {
     let parameters = parameters_of(before);
-    attributes_of(Parameters {
-        orig: parameter(line, places[ORIG], parameters.orig),
-        comm: parameter(line, places[COMM], parameters.comm),
-        datt: parameter(line, places[DATT], parameters.datt),
-        uatt: parameter(line, places[UATT], parameters.uatt),
-    })
+    let orig = truth_or(line, noted[ORIG], parameters.orig)?;
+    let comm = truth_or(line, noted[COMM], parameters.comm)?;
+    let datt = truth_or(line, noted[DATT], parameters.datt)?;
+    let uatt = truth_or(line, noted[UATT], parameters.uatt)?;
+    Ok(attributes_of(Parameters {
+        orig,
+        comm,
+        datt,
+        uatt,
+    }))
 }
 
-// Composes the message of a type; the values of its fields stand at `places`.
+// Composes the message of a type from the values of its fields: how many octets it has.
 pub(crate) fn compose(
     protocol: Protocol,
     call: Call,
     kind: u8,
     line: &[u8],
-    places: &[usize; 12],
+    noted: &[Option<Word>; 12],
     octets: &mut [u8],
-) -> Composed {
-    let chosen = choose_transaction(call, line, places);
-    match chosen {
-        Chosen::Wrong(fault, word) => Composed::Torn(fault, word),
-        Chosen::Is(transaction) => {
-            compose_kind(protocol, call, transaction, kind, line, places, octets)
-        }
-    }
-}
-
-fn compose_kind(
-    protocol: Protocol,
-    call: Call,
-    transaction: Transaction,
-    kind: u8,
-    line: &[u8],
-    places: &[usize; 12],
-    octets: &mut [u8],
-) -> Composed {
+) -> Result<usize, Wrong> {
+    let transaction = choose_transaction(call, line, noted)?;
     match kind {
-        message_type::CONNECT => {
-            compose_connect(protocol, transaction, call, line, places, octets)
-        }
+        message_type::CONNECT => compose_connect(protocol, transaction, call, line, noted, octets),
         message_type::GET_STATUS => {
-            compose_get_status(protocol, transaction, line, places[IDENTITY], octets)
+            compose_get_status(protocol, transaction, line, noted[IDENTITY], octets)
         }
         message_type::SET_PARAMETER => {
-            compose_set_parameter(protocol, transaction, call.attributes, line, places, octets)
+            compose_set_parameter(protocol, transaction, call.attributes, line, noted, octets)
         }
-        _ => compose_cause(protocol, transaction, kind, line, places[CAUSE], octets),
+        _ => compose_cause(protocol, transaction, kind, line, noted[CAUSE], octets),
     }
 }

@@ -1,78 +1,60 @@
 // The octets of a message: hexadecimal words that are joined, so that an octet's two digits may stand in two words.
 ghost use Rattle.std.specs.Prelude.{◌≤◌, length};
 
-use crate::Fault;
-use crate::words::{Word, word_from};
+use crate::words::{Word, text_of, word_from};
+use crate::{Fault, Wrong};
 use text::hex::{digits_before, read_hex};
 use text::output::{Output, put};
 use text::words::part;
 
-// How many digits or octets there are; or what is wrong, and at which word.
-#[derive(Clone, Copy)]
-pub(crate) enum Joined {
-    Count(usize),
-    Torn(Fault, Word),
-}
-
-// Puts a word of digits behind the digits before it.
-fn gather_one(line: &[u8], word: Word, digits: &mut [u8], before: usize) -> Joined {
-    let text = part(line, word.start, word.count);
+// Puts a word of digits behind the digits before it: how many there are then.
+fn gather_one(line: &[u8], word: Word, digits: &mut [u8], before: usize) -> Result<usize, Wrong> {
+    let text = text_of(line, Some(word));
     if digits_before(text, true) < text.len() {
-        return Joined::Torn(Fault::Digit, word);
+        return Err(Wrong {
+            fault: Fault::Digit,
+            word: Some(word),
+        });
     }
     let behind = put(digits, Output { at: before }, text);
     if behind.at == before {
-        return Joined::Torn(Fault::TooLong, word);
+        return Err(Wrong {
+            fault: Fault::TooLong,
+            word: Some(word),
+        });
     }
-    Joined::Count(behind.at)
+    Ok(behind.at)
 }
 
-// Puts all words from `from` on behind one another.
-fn gather(line: &[u8], from: usize, digits: &mut [u8]) -> Joined
+// Puts all words from `from` on behind one another: how many digits there are.
+fn gather(line: &[u8], from: usize, digits: &mut [u8]) -> Result<usize, Wrong>
     requires { from ≤ length line.now }
 {
-    let mut have: usize = 0;
+    let mut have = 0;
     let mut at = from;
-    while at < line.len() {
-        let word = word_from(line, at);
-        if word.count == 0 {
-            return Joined::Count(have);
-        }
-        match gather_one(line, word, digits, have) {
-            Joined::Count(more) => {
-                have = more;
-                at = word.next;
-            }
-            Joined::Torn(fault, place) => {
-                return Joined::Torn(fault, place);
-            }
-        }
+    // Steps by what a word takes: an iterator over the words would not tell where one stands.
+    while let Some(word) = word_from(line, at) {
+        have = gather_one(line, word, digits, have)?;
+        at = word.next;
     }
-    Joined::Count(have)
+    Ok(have)
 }
 
-// Joins the words from `from` on, and puts the octets that they spell over the start of `octets`. A message has at most 251 octets; up to 512 are taken,
-// so that a longer one comes to the step, which refuses it.
-pub(crate) fn join(line: &[u8], from: usize, octets: &mut [u8]) -> Joined
+// Joins the words from `from` on, and puts the octets that they spell over the start of `octets`: how many there are. A message has at most 251 octets; up to 512
+// are taken, so that a longer one comes to the step, which refuses it.
+pub(crate) fn join(line: &[u8], from: usize, octets: &mut [u8]) -> Result<usize, Wrong>
     requires { from ≤ length line.now }
 {
-    let end = Word {
-        start: line.len(),
-        count: 0,
-        next: line.len(),
-    };
     let mut digits = [0u8; 1024];
-    match gather(line, from, &mut digits) {
-        Joined::Torn(fault, word) => Joined::Torn(fault, word),
-        Joined::Count(count) => {
-            if count % 2 == 1 {
-                return Joined::Torn(Fault::HalfOctet, end);
-            }
-            let spelt = read_hex(part(&digits, 0, count), true, octets, 0);
-            if !spelt.good {
-                return Joined::Torn(Fault::TooLong, end);
-            }
-            Joined::Count(spelt.count)
-        }
+    let count = gather(line, from, &mut digits)?;
+    if count % 2 == 1 {
+        return Err(Wrong {
+            fault: Fault::HalfOctet,
+            word: None,
+        });
     }
+    read_hex(part(&digits, 0, count), true, octets, 0).ok_or(Wrong {
+        fault: Fault::TooLong,
+        word: None,
+    })
 }

@@ -15,18 +15,16 @@ ghost use Rattle.std.specs.Prelude.{◌≤◌, length};
 use clock::time_of;
 use codes::event;
 use codes::protocol::Protocol;
-use joined::{Joined, join};
+use joined::join;
 use log_entry::Reference;
 use named::read_named;
 use names::event_named;
 use text::decimal::number_of;
 use text::hex::read_hex;
-use text::words::{find, part, same};
-use words::{Word, word_from};
+use text::words::{find, part};
+use words::{Word, text_of, wanted_word, word_from};
 
 const TAB: u8 = 9;
-
-const CR: u8 = 13;
 
 const SPACE: u8 = 32;
 
@@ -86,87 +84,97 @@ pub enum Unfit {
     Again,
 }
 
-// What a line is. A fault comes with the word where it is, which has no characters where the line ends too early.
+// What is wrong with a line, and at which word; at none where the line ends too early.
+#[derive(Clone, Copy)]
+pub struct Wrong {
+    pub fault: Fault,
+    pub word: Option<Word>,
+}
+
+// What a line is.
 #[derive(Clone, Copy)]
 pub enum Line {
     Nothing,
     Call(Protocol),
     Event(Told),
-    Wrong(Fault, Word),
 }
 
 // The line without the carriage return that files from Windows have before each line feed.
 fn without_return(line: &[u8]) -> &[u8] {
-    let count = line.len();
-    if count == 0 {
-        return line;
+    match line {
+        [text @ .., b'\r'] => text,
+        _ => line,
     }
-    if line[count - 1] == CR {
-        return part(line, 0, count - 1);
-    }
-    line
 }
 
 // Where a comment begins, or the line's end.
 fn comment_at(line: &[u8]) -> usize {
     let mut before = SPACE;
-    let mut at = 0;
-    while at < line.len() {
-        if (line[at] == b'#') & (before == SPACE) {
+    for (at, character) in line.iter().enumerate() {
+        if *character == b'#' && before == SPACE {
             return at;
         }
-        before = line[at];
-        at += 1;
+        before = *character;
     }
-    at
+    line.len()
 }
 
 // Reads a line of a script for a radio in this call, of this protocol. It has no line feed. The octets of a message are put over the start of `octets`.
-pub fn read_line(protocol: Protocol, call: Call, line: &[u8], octets: &mut [u8]) -> Line {
+pub fn read_line(
+    protocol: Protocol,
+    call: Call,
+    line: &[u8],
+    octets: &mut [u8],
+) -> Result<Line, Wrong> {
     let whole = without_return(line);
     let text = part(whole, 0, comment_at(whole));
-    let word = word_from(text, 0);
-    if word.count == 0 {
-        return Line::Nothing;
-    }
-    let tab = find(text, TAB);
-    if tab < text.len() {
-        return Line::Wrong(
-            Fault::Tab,
-            Word {
-                start: tab,
-                count: 1,
-                next: tab,
-            },
-        );
-    }
-    if same(part(text, word.start, word.count), b"call") {
+    let Some(word) = word_from(text, 0) else {
+        return Ok(Line::Nothing);
+    };
+    without_tab(text)?;
+    let first = text_of(text, Some(word));
+    if let b"call" = first {
         return read_kind(text, word.next);
     }
-    let time = time_of(part(text, word.start, word.count));
-    if !time.good {
-        return Line::Wrong(Fault::Time, word);
+    let Some(time) = time_of(first) else {
+        return Err(Wrong {
+            fault: Fault::Time,
+            word: Some(word),
+        });
+    };
+    let told = read_event(protocol, call, text, word.next, time, octets)?;
+    Ok(Line::Event(told))
+}
+
+fn without_tab(text: &[u8]) -> Result<(), Wrong> {
+    let start = find(text, TAB);
+    if start == text.len() {
+        return Ok(());
     }
-    read_event(protocol, call, text, word.next, time.value, octets)
+    Err(Wrong {
+        fault: Fault::Tab,
+        word: Some(Word {
+            start,
+            count: 1,
+            next: start,
+        }),
+    })
 }
 
 // The kind of call that a script is of.
-fn read_kind(line: &[u8], from: usize) -> Line
+fn read_kind(line: &[u8], from: usize) -> Result<Line, Wrong>
     requires { from ≤ length line.now }
 {
-    let word = word_from(line, from);
-    let behind = word_from(line, word.next);
-    let kind = part(line, word.start, word.count);
-    if 0 < behind.count {
-        return Line::Wrong(Fault::Surplus, behind);
+    let word = wanted_word(line, from, Fault::Kind)?;
+    nothing_behind(line, word.next)?;
+    match text_of(line, Some(word)) {
+        b"broadcast" => Ok(Line::Call(Protocol::Broadcast)),
+        b"group" => Ok(Line::Call(Protocol::Group)),
+        _ => Err(Wrong {
+            fault: Fault::Kind,
+            word: Some(word),
+        }),
     }
-    if same(kind, b"broadcast") {
-        return Line::Call(Protocol::Broadcast);
-    }
-    if same(kind, b"group") {
-        return Line::Call(Protocol::Group);
-    }
-    Line::Wrong(Fault::Kind, word)
 }
 
 // The event's name and what stands behind it.
@@ -177,17 +185,20 @@ fn read_event(
     from: usize,
     time: u64,
     octets: &mut [u8],
-) -> Line
+) -> Result<Told, Wrong>
     requires { from ≤ length line.now }
 {
-    let word = word_from(line, from);
-    if same(part(line, word.start, word.count), b"receive") {
+    let word = wanted_word(line, from, Fault::Event)?;
+    let name = text_of(line, Some(word));
+    if let b"receive" = name {
         return read_named(protocol, call, line, word.next, time, octets);
     }
-    let event = event_named(protocol, part(line, word.start, word.count));
-    if event == 0 {
-        return Line::Wrong(Fault::Event, word);
-    }
+    let Some(event) = event_named(protocol, name) else {
+        return Err(Wrong {
+            fault: Fault::Event,
+            word: Some(word),
+        });
+    };
     let reference = Reference {
         first: 0,
         second: 0,
@@ -208,116 +219,100 @@ fn read_event(
     if event == event::RECEIVED {
         return read_mode(line, word.next, told, octets);
     }
-    finish(line, word.next, told)
+    nothing_behind(line, word.next)?;
+    Ok(told)
 }
 
 // Nothing may stand behind the last word.
-fn finish(line: &[u8], from: usize, told: Told) -> Line
+fn nothing_behind(line: &[u8], from: usize) -> Result<(), Wrong>
     requires { from ≤ length line.now }
 {
-    let word = word_from(line, from);
-    if word.count == 0 {
-        return Line::Event(told);
+    match word_from(line, from) {
+        None => Ok(()),
+        word => Err(Wrong {
+            fault: Fault::Surplus,
+            word,
+        }),
     }
-    Line::Wrong(Fault::Surplus, word)
 }
 
 // What stands behind the start of a word; nothing where the word starts otherwise.
 fn behind_start<'a>(line: &'a [u8], word: Word, start: &[u8]) -> &'a [u8] {
-    let count = start.len();
-    if word.count < count {
-        return part(line, 0, 0);
-    }
-    if !same(part(line, word.start, count), start) {
-        return part(line, 0, 0);
-    }
-    part(
-        line,
-        std::num::wrapping_add_usize(word.start, count),
-        word.count - count,
-    )
+    text_of(line, Some(word))
+        .strip_prefix(start)
+        .unwrap_or(part(line, 0, 0))
 }
 
 // `value=N`, and the reference behind it.
-fn read_value(line: &[u8], from: usize, told: Told) -> Line
+fn read_value(line: &[u8], from: usize, told: Told) -> Result<Told, Wrong>
     requires { from ≤ length line.now }
 {
-    let word = word_from(line, from);
-    let number = number_of(behind_start(line, word, b"value="), 255);
-    if !number.good {
-        return Line::Wrong(Fault::Value, word);
-    }
-    let reference = told.reference;
-    let valued = Told {
-        time: told.time,
-        event: told.event,
-        value: number.value as u8,
-        reference,
-        mode: 0,
-        count: 0,
+    let word = wanted_word(line, from, Fault::Value)?;
+    let Some(number) = number_of(behind_start(line, word, b"value="), 255) else {
+        return Err(Wrong {
+            fault: Fault::Value,
+            word: Some(word),
+        });
     };
+    let mut valued = told;
+    valued.value = number as u8;
     read_reference(line, word.next, valued)
 }
 
 // `reference=` and 8 hexadecimal digits.
-fn read_reference(line: &[u8], from: usize, told: Told) -> Line
+fn read_reference(line: &[u8], from: usize, told: Told) -> Result<Told, Wrong>
     requires { from ≤ length line.now }
 {
-    let word = word_from(line, from);
+    let word = wanted_word(line, from, Fault::Reference)?;
+    let Some(reference) = four_octets(behind_start(line, word, b"reference=")) else {
+        return Err(Wrong {
+            fault: Fault::Reference,
+            word: Some(word),
+        });
+    };
+    nothing_behind(line, word.next)?;
+    let mut called = told;
+    called.reference = reference;
+    Ok(called)
+}
+
+// The call reference that 8 hexadecimal digits spell.
+pub(crate) fn four_octets(text: &[u8]) -> Option<Reference> {
     let mut four = [0u8; 4];
-    let spelt = read_hex(behind_start(line, word, b"reference="), true, &mut four, 0);
-    if spelt.count != 4 {
-        return Line::Wrong(Fault::Reference, word);
+    let count = read_hex(text, true, &mut four, 0)?;
+    if count != 4 {
+        return None;
     }
-    let reference = Reference {
+    Some(Reference {
         first: four[0],
         second: four[1],
         third: four[2],
         fourth: four[3],
-    };
-    let called = Told {
-        time: told.time,
-        event: told.event,
-        value: told.value,
-        reference,
-        mode: 0,
-        count: 0,
-    };
-    finish(line, word.next, called)
+    })
 }
 
-// The mode of a message by its name, 2 for none.
-pub(crate) fn mode_named(name: &[u8]) -> u8 {
-    if same(name, b"acknowledged") {
-        return 0;
+// The mode of a message by its name.
+pub(crate) fn mode_named(name: &[u8]) -> Option<u8> {
+    match name {
+        b"acknowledged" => Some(0),
+        b"unacknowledged" => Some(1),
+        _ => None,
     }
-    if same(name, b"unacknowledged") {
-        return 1;
-    }
-    2
 }
 
 // `acknowledged` or `unacknowledged`, and the octets behind it.
-fn read_mode(line: &[u8], from: usize, told: Told, octets: &mut [u8]) -> Line
+fn read_mode(line: &[u8], from: usize, told: Told, octets: &mut [u8]) -> Result<Told, Wrong>
     requires { from ≤ length line.now }
 {
-    let word = word_from(line, from);
-    let mode = mode_named(part(line, word.start, word.count));
-    if mode == 2 {
-        return Line::Wrong(Fault::Mode, word);
-    }
-    match join(line, word.next, octets) {
-        Joined::Count(count) => {
-            let reference = told.reference;
-            Line::Event(Told {
-                time: told.time,
-                event: told.event,
-                value: 0,
-                reference,
-                mode,
-                count,
-            })
-        }
-        Joined::Torn(fault, place) => Line::Wrong(fault, place),
-    }
+    let word = wanted_word(line, from, Fault::Mode)?;
+    let Some(mode) = mode_named(text_of(line, Some(word))) else {
+        return Err(Wrong {
+            fault: Fault::Mode,
+            word: Some(word),
+        });
+    };
+    let mut heard = told;
+    heard.mode = mode;
+    heard.count = join(line, word.next, octets)?;
+    Ok(heard)
 }

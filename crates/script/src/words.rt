@@ -1,11 +1,12 @@
 // The words of a line, parted by one or more spaces.
-ghost use Rattle.std.specs.Prelude.{◌+◌, ◌≤◌, length};
+ghost use Rattle.std.specs.Prelude.{◌+◌, ◌≤◌, ◌<◌, length, IfSome, IfOk};
 
-use text::words::find;
+use crate::{Fault, Wrong};
+use text::words::{find, part};
 
 const SPACE: u8 = 32;
 
-// A word: its place, how many characters it has, and the place behind it. Where the line has no more words, it has none.
+// A word: its place, how many characters it has, and the place behind it.
 #[derive(Clone, Copy)]
 pub struct Word {
     pub start: usize,
@@ -13,31 +14,47 @@ pub struct Word {
     pub next: usize,
 }
 
-// The place of the first character from `from` on that is no space.
-fn behind_spaces(line: &[u8], from: usize) -> usize
-    requires { from ≤ length line.now }
-    ensures { (from ≤ result) × (result ≤ length line.now) }
+// How many spaces a text begins with.
+fn spaces_before(text: &[u8]) -> usize
+    ensures { result ≤ length text.now }
 {
-    let mut at = from;
-    while at < line.len() {
-        if line[at] != SPACE {
-            return at;
-        }
-        at += 1;
-    }
-    at
+    text.iter()
+        .position(|character| *character != SPACE)
+        .unwrap_or(text.len())
 }
 
-// The first word from `from` on.
-pub(crate) fn word_from(line: &[u8], from: usize) -> Word
+// The first word from `from` on, where the line has one more.
+pub(crate) fn word_from(line: &[u8], from: usize) -> Option<Word>
     requires { from ≤ length line.now }
-    ensures { (from + result.count ≤ result.next) × (result.next ≤ length line.now) }
+    ensures { IfSome result (λ word. (from < word.next) × (word.next ≤ length line.now)) }
 {
-    let start = behind_spaces(line, from);
+    let start = from + spaces_before(&line[from..]);
     let count = find(&line[start..], SPACE);
-    Word {
+    if count == 0 {
+        return None;
+    }
+    Some(Word {
         start,
         count,
         next: start + count,
+    })
+}
+
+// The same of a line that is at fault where it has no more words.
+pub(crate) fn wanted_word(line: &[u8], from: usize, fault: Fault) -> Result<Word, Wrong>
+    requires { from ≤ length line.now }
+    ensures { IfOk result (λ word. (from < word.next) × (word.next ≤ length line.now)) }
+{
+    match word_from(line, from) {
+        Some(word) => Ok(word),
+        None => Err(Wrong { fault, word: None }),
+    }
+}
+
+// What a word says; nothing where there is none.
+pub(crate) fn text_of(line: &[u8], word: Option<Word>) -> &[u8] {
+    match word {
+        Some(word) => part(line, word.start, word.count),
+        None => part(line, 0, 0),
     }
 }

@@ -1,4 +1,5 @@
 pub mod Coincide
 pub mod Feed
 pub mod Lines
+pub mod Missing
 pub mod Walk

@@ -1,40 +1,38 @@
 // The command `settings OCTETS` of the probe: what reading a settings file comes to, in numbers.
 #![tactic(auto)]
 
-use codes::answer;
 use fields::malformed;
 use fields::words::octets_word;
 use saying::{say, say_decimal, say_hex, say_number};
 use settings::read_settings;
 use settings_values::Settings;
 use text::output::Output;
-use text::words::{Words, finished, part};
+use text::words::{finished, part};
 
 pub fn answer_settings(
     line: &[u8],
-    words: Words,
+    at: usize,
     octets: &mut [u8],
     buffer: &mut [u8],
     output: Output,
 ) -> Output {
-    let word = octets_word(line, words, octets, 0);
-    let rest = word.words;
-    let count = word.count;
-    if !finished(line, rest) {
-        return malformed(buffer, output);
+    match octets_word(line, at, octets, 0) {
+        Some((count, end)) if finished(line, end) => {
+            say_reading(buffer, output, part(octets, 0, count))
+        }
+        _ => malformed(buffer, output),
     }
-    say_reading(buffer, output, part(octets, 0, count))
 }
 
 fn say_reading(buffer: &mut [u8], output: Output, file: &[u8]) -> Output {
-    let read = read_settings(file);
-    let settings = read.settings;
-    if read.answer == answer::TAKEN {
-        return say_settings(buffer, output, settings);
+    match read_settings(file) {
+        Ok(settings) => say_settings(buffer, output, settings),
+        Err(refusal) => {
+            let answer = say(buffer, output, b"12 ");
+            let number = say_decimal(buffer, answer, refusal.line as u64);
+            say(buffer, number, b"\n")
+        }
     }
-    let answer = say(buffer, output, b"12 ");
-    let number = say_decimal(buffer, answer, read.line as u64);
-    say(buffer, number, b"\n")
 }
 
 fn say_settings(buffer: &mut [u8], output: Output, settings: Settings) -> Output {

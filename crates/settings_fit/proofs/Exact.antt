@@ -1,4 +1,4 @@
--- A fit file is read exactly: whatever the order of its lines and the case of its hex digits, the answer is 0 and the settings it writes.
+-- A fit file is read exactly: whatever the order of its lines and the case of its hex digits, the answer is the settings it writes.
 use Prim.Native.Nat.{ℕ, suc, ◌+◌, ◌*◌, ◌/◌, ◌%◌, ◌≤◌, ◌<◌}
 use mathlib.Core.Path.{◌≡◌, refl, sym, ap, ◌∙◌}
 use mathlib.Core.Bool.{Bool, true, false, cond, not, ◌&&◌}
@@ -9,13 +9,14 @@ use borrow.Author.Tests.{lt-ltb, le-leb, eq-eqb, ne_eqb, ltb-true, ltb-false, eq
 use lib.Dec.{ltb, eqb}
 use lib.ListN.{length, take, replicate, get_or-replicate}
 use Rattle.octets.proofs.Choice.{never}
+use Rattle.std.specs.Prelude.{Some, None, Ok}
 use Rattle.timer.specs.Timers.{least_joining, greatest_joining, least_invitation, greatest_invitation}
 use Rattle.settings_values.specs.declared.Settings.{Settings}
 use Rattle.settings_line.specs.declared.Seen.{Seen}
 use Rattle.settings.specs.Lines.{Ended, longer, lines}
 use Rattle.settings_values.specs.Digits.{digit, digits, octets_of}
 use Rattle.settings_line.specs.Line.{Setting, Key, Classmark, Identity, Joining, Invitation, key_of, classmark_of, identity_of, joining_of, invitation_of, starts, setting_of, turn_of}
-use Rattle.settings.specs.Settings.{meaning, end_of, read_from, settings_of, accepted}
+use Rattle.settings.specs.Settings.{meaning, read_from, whole_of, settings_of}
 use Rattle.settings_values.specs.Values.{InRange}
 use Rattle.settings_fit.specs.Written.{Digit, HexText, none, octet, decimal_text, Writes, key-line, classmark-line, identity-line, joining-line, invitation-line, WritesAll, no_line, and-line, named, times, Fit}
 use Rattle.settings_values.proofs.Digits.{digit-upper, digit-lower}
@@ -163,22 +164,14 @@ module _ (s : Settings) (range : InRange s) where
   file_means (and-line {line = line} {file = file} w rest) =
       rw (clean_line line file (line_clean w)) (and_says (line_means w) (file_means rest))
 
-  -- What is seen while the lines of a fit file are read: the settings of the names seen, and zeros.
+  -- What is seen while the lines of a fit file are read: the settings of the names seen.
   shown : Bool → Bool → Bool → Bool → Bool → Seen
   shown a b c d e = record {
-    key = a;
-    classmark = b;
-    identity = c;
-    joining = d;
-    invitation = e;
-    settings = record {
-      key = cond a s.key 0;
-      classmark = cond b s.classmark (0 ∷ 0 ∷ 0 ∷ []);
-      identity = cond c s.identity (replicate 8 0);
-      count = cond c s.count 0;
-      joining = cond d s.joining 0;
-      invitation = cond e s.invitation 0;
-    };
+    key = cond a (Some s.key) None;
+    classmark = cond b (Some s.classmark) None;
+    identity = cond c (Some (record { octets = s.identity; count = s.count })) None;
+    joining = cond d (Some s.joining) None;
+    invitation = cond e (Some s.invitation) None;
   }
 
 once-true : (t : Bool) → bit t + 0 ≡ 1 → t ≡ true
@@ -187,8 +180,8 @@ once-true false e = let z : ⊥ = omega arith in elim z [ ]
 
 module _ (s : Settings) (range : InRange s) where
   reads : (number : ℕ) (a b c d e : Bool) {names : List ℕ} {xs : List Setting} → SaysAll s names xs → Once (a ∷ b ∷ c ∷ d ∷ e ∷ []) names
-      → read_from number (shown s range a b c d e) xs ≡ accepted s
-  unfolding read_from turn_of end_of times shown
+      → read_from number (shown s range a b c d e) xs ≡ Ok s
+  unfolding read_from turn_of whole_of times shown
   reads number a b c d e no_more o =
       rw (
         once-true a (o 0 (omega arith)),
@@ -215,7 +208,7 @@ module _ (s : Settings) (range : InRange s) where
       rw new (reads (suc number) a b c d true rest (once-next (a ∷ b ∷ c ∷ d ∷ e ∷ []) 4 names (omega arith) (omega arith) o))
 
 -- A fit file is read, and exactly.
-pub fit-read : (s : Settings) (file : List ℕ) → Fit s file → settings_of file ≡ accepted s
+pub fit-read : (s : Settings) (file : List ℕ) → Fit s file → settings_of file ≡ Ok s
 unfolding settings_of shown
 fit-read s file f = reads s f.range 1 false false false false false (file_means s f.range f.written) unmarked
   where

@@ -1,5 +1,4 @@
 pub mod Exact
-pub mod Faults
 pub mod Names
 pub mod Numbers
 pub mod Only

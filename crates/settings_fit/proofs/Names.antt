@@ -8,6 +8,7 @@ use borrow.Author.Tests.{eqb-true, eqb-false, eq-eqb}
 use lib.Dec.{eqb}
 use lib.ListN.{length, get_or, set}
 use lib.Seq.{get_or-set_same, get_or-set_other}
+use Rattle.std.specs.Prelude.{is_some}
 use Rattle.settings_line.specs.declared.Seen.{Seen}
 use Rattle.settings_line.specs.Line.{Setting, Key, Classmark, Identity, Joining, Invitation, Unreadable, with_key, with_classmark, with_identity, with_joining, with_invitation, once, turn_of}
 use Rattle.settings_fit.specs.Written.{named, times}
@@ -20,7 +21,7 @@ bit false = 0
 
 -- Which names are seen.
 abbrev pub flags : Seen → List Bool
-flags seen = seen.key ∷ seen.classmark ∷ seen.identity ∷ seen.joining ∷ seen.invitation ∷ []
+flags seen = is_some seen.key ∷ is_some seen.classmark ∷ is_some seen.identity ∷ is_some seen.joining ∷ is_some seen.invitation ∷ []
 
 abbrev pub flag : List Bool → ℕ → Bool
 flag marks name = get_or marks name false

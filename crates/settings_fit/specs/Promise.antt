@@ -1,10 +1,9 @@
 -- What an answer promises: an accepted file is fit for the settings read, and a refused one is named by its first bad line.
 -- Document 01, "Settings file": "The first line unreadable or repeating a name is named, counted from 1 ..".
-use Rattle.std.specs.Prelude.{ℕ, suc, ◌≤◌, ◌<◌, ◌≡◌, List, ◌∷◌, ◌++◌, map, ◌⊎◌, length}
-use Rattle.settings_line.specs.declared.Fault.TheVariants.{Fine}
-use Rattle.settings.specs.declared.ReadSettings.{ReadSettings}
+use Rattle.std.specs.Prelude.{ℕ, suc, ◌≤◌, ◌<◌, ◌≡◌, Result, Ok, Err, List, ◌∷◌, ◌++◌, map, ◌⊎◌, length}
+use Rattle.settings_values.specs.declared.Settings.{Settings}
+use Rattle.settings.specs.declared.Refusal.{Refusal}
 use Rattle.settings.specs.Lines.{lines}
-use Rattle.settings_values.specs.Values.{no_settings}
 use Rattle.settings_line.specs.Line.{Setting, Key, Classmark, Identity, Joining, Invitation, Unreadable}
 use Rattle.settings.specs.Settings.{meaning}
 use Rattle.settings_fit.specs.Written.{named, times, Fit}
@@ -44,18 +43,7 @@ pub record OneMissing (names : List ℕ) (number : ℕ) : Type 0 where
   pub good : Good names
   pub missing : times name names ≡ 0
 
-pub record Accepted (file : List ℕ) (r : ReadSettings) : Type 0 where
-  pub answer : r.answer ≡ 0
-  pub fault : r.fault ≡ Fine
-  pub fit : Fit r.settings file
-
--- On refusal the settings are all zero, and the identity has no octets.
-pub record Refused (file : List ℕ) (r : ReadSettings) : Type 0 where
-  pub answer : r.answer ≡ 12
-  pub fault : r.fault ≡ Fine → ⊥
-  pub line : FirstBad (names_of file) r.line ⊎ OneMissing (names_of file) r.line
-  pub settings : r.settings ≡ no_settings
-  pub count : r.settings.count ≡ 0
-
-abbrev pub Promise : List ℕ → ReadSettings → Type 0
-Promise file r = Accepted file r ⊎ Refused file r
+-- Settings are given of a fit file alone; a refusal has none, and tells the first bad line.
+abbrev pub Promise : List ℕ → Result Settings Refusal → Type 0
+Promise file (Ok settings) = Fit settings file
+Promise file (Err refusal) = FirstBad (names_of file) refusal.line ⊎ OneMissing (names_of file) refusal.line

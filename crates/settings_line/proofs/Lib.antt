@@ -1,4 +1,3 @@
 pub mod Coincide
 pub mod Names
 pub mod Turns
-pub mod Values

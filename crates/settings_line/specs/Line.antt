@@ -1,12 +1,11 @@
 -- One line of the settings file. Document 01, "Settings file".
-use Rattle.std.specs.Prelude.{ℕ, Bool, true, false, cond, ◌&&◌, List, [], ◌∷◌, eqb, length, get_or, drop}
+use Rattle.std.specs.Prelude.{ℕ, Bool, true, false, cond, ◌&&◌, Option, Some, None, Result, Ok, Err, List, [], ◌∷◌, eqb, length, get_or, drop, is_some}
 use Rattle.settings_values.specs.Digits.{digit, octets_of, number_from}
-use Rattle.settings_values.specs.Values.{is_key, is_classmark, is_identity, is_joining, is_invitation, padded, no_settings}
-use Rattle.settings_values.specs.declared.Settings.{Settings}
+use Rattle.settings_values.specs.Values.{is_key, is_classmark, is_identity, is_joining, is_invitation, padded}
+use Rattle.settings_values.specs.declared.OwnIdentity.{OwnIdentity}
 use Rattle.settings_line.specs.declared.Fault.{Fault}
-use Rattle.settings_line.specs.declared.Fault.TheVariants.{Fine, UnknownName, BadKey, BadClassmark, BadIdentity, BadJoining, BadInvitation, Repeated}
+use Rattle.settings_line.specs.declared.Fault.TheVariants.{UnknownName, BadKey, BadClassmark, BadIdentity, BadJoining, BadInvitation, Repeated}
 use Rattle.settings_line.specs.declared.Seen.{Seen}
-use Rattle.settings_line.specs.declared.Turn.{Turn}
 
 -- What one line sets; or that it is unreadable, and why.
 pub data Setting : Type 0 where
@@ -67,55 +66,42 @@ setting_of line =
 
 -- Before the first line no name is seen.
 abbrev pub nothing : Seen
-nothing = record { key = false; classmark = false; identity = false; joining = false; invitation = false; settings = no_settings }
+nothing = record { key = None; classmark = None; identity = None; joining = None; invitation = None }
 
 -- One name more is seen, and set.
-abbrev values : ℕ → List ℕ → List ℕ → ℕ → ℕ → ℕ → Settings
-values key classmark identity count joining invitation =
-    record { key = key; classmark = classmark; identity = identity; count = count; joining = joining; invitation = invitation }
-
-abbrev names : Bool → Bool → Bool → Bool → Bool → Settings → Seen
-names key classmark identity joining invitation settings =
-    record { key = key; classmark = classmark; identity = identity; joining = joining; invitation = invitation; settings = settings }
-
 abbrev pub with_key : Seen → ℕ → Seen
-with_key seen n = let s : Settings = seen.settings in
-    names true seen.classmark seen.identity seen.joining seen.invitation
-    (values n s.classmark s.identity s.count s.joining s.invitation)
+with_key seen n = record seen { key = Some n }
 
 abbrev pub with_classmark : Seen → List ℕ → Seen
-with_classmark seen octets = let s : Settings = seen.settings in
-    names seen.key true seen.identity seen.joining seen.invitation
-    (values s.key octets s.identity s.count s.joining s.invitation)
+with_classmark seen octets = record seen { classmark = Some octets }
+
+-- Behind the identity's octets stand zeros up to eight.
+abbrev pub own_identity : List ℕ → OwnIdentity
+own_identity octets = record { octets = padded octets; count = length octets }
 
 abbrev pub with_identity : Seen → List ℕ → Seen
-with_identity seen octets = let s : Settings = seen.settings in
-    names seen.key seen.classmark true seen.joining seen.invitation
-    (values s.key s.classmark (padded octets) (length octets) s.joining s.invitation)
+with_identity seen octets = record seen { identity = Some (own_identity octets) }
 
 abbrev pub with_joining : Seen → ℕ → Seen
-with_joining seen n = let s : Settings = seen.settings in
-    names seen.key seen.classmark seen.identity true seen.invitation
-    (values s.key s.classmark s.identity s.count n s.invitation)
+with_joining seen n = record seen { joining = Some n }
 
 abbrev pub with_invitation : Seen → ℕ → Seen
-with_invitation seen n = let s : Settings = seen.settings in
-    names seen.key seen.classmark seen.identity seen.joining true
-    (values s.key s.classmark s.identity s.count s.joining n)
-
--- The line is refused; nothing that was seen is handed on.
-abbrev pub stopped_by : Fault → Turn
-stopped_by fault = record { taken = false; fault = fault; seen = nothing }
+with_invitation seen n = record seen { invitation = Some n }
 
 -- "Each once": a name that is seen already is refused.
-abbrev pub once : Bool → Seen → Turn
-once already next = cond already (stopped_by Repeated) (record { taken = true; fault = Fine; seen = next })
+abbrev pub once : Bool → Seen → Result Seen Fault
+once already next = cond already (Err Repeated) (Ok next)
 
--- What one line adds to what is seen.
-unfoldable pub turn_of : Seen → Setting → Turn
-turn_of seen (Key n) = once seen.key (with_key seen n)
-turn_of seen (Classmark octets) = once seen.classmark (with_classmark seen octets)
-turn_of seen (Identity octets) = once seen.identity (with_identity seen octets)
-turn_of seen (Joining n) = once seen.joining (with_joining seen n)
-turn_of seen (Invitation n) = once seen.invitation (with_invitation seen n)
-turn_of seen (Unreadable fault) = stopped_by fault
+-- What one line adds to what is seen; or why it is refused.
+unfoldable pub turn_of : Seen → Setting → Result Seen Fault
+turn_of seen (Key n) = once (is_some seen.key) (with_key seen n)
+turn_of seen (Classmark octets) = once (is_some seen.classmark) (with_classmark seen octets)
+turn_of seen (Identity octets) = once (is_some seen.identity) (with_identity seen octets)
+turn_of seen (Joining n) = once (is_some seen.joining) (with_joining seen n)
+turn_of seen (Invitation n) = once (is_some seen.invitation) (with_invitation seen n)
+turn_of seen (Unreadable fault) = Err fault
+
+-- For the function beneath: what a line sets of a value that was read, or could not be.
+abbrev pub once_read : {T : Type 0} → Option T → Option T → Fault → Result (Option T) Fault
+once_read before None fault = Err fault
+once_read before (Some value) fault = cond (is_some before) (Err Repeated) (Ok (Some value))

@@ -5,7 +5,8 @@ ghost use Rattle.std.specs.Prelude.{◌≡◌};
 ghost use Rattle.settings.specs.Settings.{settings_of};
 ghost use Rattle.settings_numbers.specs.Configuring.{fault_number, kept_octets, settings_shown};
 
-use codes::{answer, wide};
+use codes::wide::answer;
+use settings::read_settings;
 use settings_line::Fault;
 
 #[repr(C)]
@@ -23,7 +24,6 @@ fn fault_number(fault: Fault) -> u32
     ensures { result ≡ fault_number fault }
 {
     match fault {
-        Fault::Fine => 0,
         Fault::NoLineFeed => 1,
         Fault::UnknownName => 2,
         Fault::BadKey => 3,
@@ -45,25 +45,23 @@ pub fn read_file(file: &[u8], settings: &mut [u8; 21]) -> SettingsRead
     ensures value { result ≡ settings_shown (settings_of file.now) }
     ensures settings_after { settings.new ≡ kept_octets settings.old (settings_of file.now) }
 {
-    let read = settings::read_settings(file);
-    let why = read.fault;
-    let values = read.settings;
-    let fault = fault_number(why);
-    if read.answer != answer::TAKEN {
-        return SettingsRead {
-            answer: read.answer as u32,
-            fault,
-            line: read.line,
+    match read_settings(file) {
+        Ok(values) => {
+            settings_octets::write(values, settings);
+            SettingsRead {
+                answer: answer::TAKEN,
+                fault: 0,
+                line: 0,
+                joining: values.joining,
+                invitation: values.invitation,
+            }
+        }
+        Err(refusal) => SettingsRead {
+            answer: answer::SETTINGS_REFUSED,
+            fault: fault_number(refusal.fault),
+            line: refusal.line,
             joining: 0,
             invitation: 0,
-        };
-    }
-    settings_octets::write(values, settings);
-    SettingsRead {
-        answer: wide::answer::TAKEN,
-        fault,
-        line: read.line,
-        joining: values.joining,
-        invitation: values.invitation,
+        },
     }
 }

@@ -5,13 +5,13 @@ use mathlib.Core.Bool.{Bool, true, false, cond, ◌&&◌, and-false}
 use mathlib.Core.List.{List, [], ◌∷◌}
 use native.Mathlib.Omega.{arith}
 use native.Mathlib.Numerals.{add-one}
-use borrow.Author.Tests.{lt-ltb, le-ltb, le-leb, lt-leb}
+use borrow.Author.Tests.{lt-ltb, le-ltb, le-leb, lt-leb, ltb-true, ltb-false}
 use lib.Dec.{leb, ltb}
 use lib.ListN.{length, get_or, drop, set, drop_of_length-le, length-drop}
 use lib.Seq.{drop-cons, sets}
-use Rattle.settings_values.specs.Digits.{between, digit, digits, octets_of, number_from}
-use Rattle.settings_values.specs.declared.Hex.{Hex}
-use Rattle.settings_values.specs.Values.{no_hex, hex_from, decimal_from}
+use Rattle.std.specs.Prelude.{Option, Some, None}
+use Rattle.settings_values.specs.Digits.{between, digit, digit_read, digits, octets_of, number_from}
+use Rattle.settings_values.specs.Values.{hex_from, decimal_from}
 
 -- An octet inside a range, below it and above it.
 inside : (low b high : ℕ) → low ≤ b → b ≤ high → between low b high ≡ true
@@ -41,6 +41,32 @@ module _ (b : ℕ) where
   unfolding digit
   digit-none h k l = rw (h, k, l)
 
+-- A digit that is read, and an octet that is none.
+module _ (b : ℕ) where
+  pub digit_is_read : (n : ℕ) → n ≡ digit b → n < 16 → Some n ≡ digit_read b
+  unfolding digit_read
+  digit_is_read n p h = rw (← p, lt-ltb n 16 h)
+
+  pub digit_not_read : 16 ≡ digit b → None ≡ digit_read b
+  unfolding digit_read
+  digit_not_read p = rw (← p)
+
+  pub digit_some : (n : ℕ) → Some n ≡ digit_read b → (n ≡ digit b) × (n < 16)
+  unfolding digit_read
+  digit_some n = go (ltb (digit b) 16) refl
+    where
+      go : (t : Bool) → ltb (digit b) 16 ≡ t → Some n ≡ cond t (Some (digit b)) None → (n ≡ digit b) × (n < 16)
+      go true q e = let k : n ≡ digit b = cc in let h : digit b < 16 = ltb-true (digit b) 16 q in (k, omega arith)
+      go false q e = absurd (cc)
+
+  pub digit_no : None ≡ digit_read b → 16 ≤ digit b
+  unfolding digit_read
+  digit_no = go (ltb (digit b) 16) refl
+    where
+      go : (t : Bool) → ltb (digit b) 16 ≡ t → None ≡ cond t (Some (digit b)) None → 16 ≤ digit b
+      go true q e = absurd (cc)
+      go false q e = ltb-false (digit b) 16 q
+
 -- The next two of the digits, and the next one.
 two_next : (text : List ℕ) (place : ℕ) → 2 * place + 1 < length text
     → drop (2 * place) text ≡ get_or text (2 * place) 0 ∷ get_or text (2 * place + 1) 0 ∷ drop (2 * (place + 1)) text
@@ -51,27 +77,32 @@ two_next text place h =
     rw (n, add-one) (drop-cons text (2 * place) 0 k ∙ ap (get_or text (2 * place) 0 ∷◌) (drop-cons text (suc (2 * place)) 0 m))
 
 -- A turn of the loop that reads hex digits.
-module _ (octets : List ℕ) (place : ℕ) (text : List ℕ) (high low : ℕ) (room : place < 8) (h : 2 * place + 1 < length text)
-    (p : high ≡ digit (get_or text (2 * place) 0)) (q : low ≡ digit (get_or text (2 * place + 1) 0)) where
+module _ (octets : List ℕ) (place : ℕ) (text : List ℕ) (room : place < 8) (h : 2 * place + 1 < length text) where
+  abbrev turn : Option (List ℕ)
+  turn = hex_from (8 - place) octets place (drop (2 * place) text)
+
   one_left : 8 - place ≡ suc (8 - (place + 1))
   one_left = omega arith
 
-  pub hex_next : high < 16 → low < 16
-      → hex_from (8 - place) octets place (drop (2 * place) text) ≡ hex_from (8 - (place + 1)) (set octets place (16 * high + low)) (place + 1) (drop (2 * (place + 1)) text)
+  pub hex_next : (high low : ℕ) → Some high ≡ digit_read (get_or text (2 * place) 0) → Some low ≡ digit_read (get_or text (2 * place + 1) 0)
+      → turn ≡ hex_from (8 - (place + 1)) (set octets place (16 * high + low)) (place + 1) (drop (2 * (place + 1)) text)
   unfolding hex_from
-  hex_next k l = rw (one_left, two_next text place h, ← p, ← q, lt-ltb high 16 k, lt-ltb low 16 l, add-one place)
+  hex_next high low p q =
+      let a = digit_some _ high p in
+      let b = digit_some _ low q in
+      rw (one_left, two_next text place h, ← a.0, ← b.0, lt-ltb high 16 a.1, lt-ltb low 16 b.1, add-one place)
 
-  pub hex_high : 16 ≤ high → no_hex ≡ hex_from (8 - place) octets place (drop (2 * place) text)
+  pub hex_high : None ≡ digit_read (get_or text (2 * place) 0) → None ≡ turn
   unfolding hex_from
-  hex_high k = rw (one_left, two_next text place h, ← p, le-ltb high 16 k)
+  hex_high p = rw (one_left, two_next text place h, le-ltb _ 16 (digit_no _ p))
 
-  pub hex_low : high < 16 → 16 ≤ low → no_hex ≡ hex_from (8 - place) octets place (drop (2 * place) text)
+  pub hex_low : None ≡ digit_read (get_or text (2 * place + 1) 0) → None ≡ turn
   unfolding hex_from
-  hex_low k l = rw (one_left, two_next text place h, ← p, ← q, lt-ltb high 16 k, le-ltb low 16 l)
+  hex_low p = rw (one_left, two_next text place h, le-ltb _ 16 (digit_no _ p), and-false (ltb (digit (get_or text (2 * place) 0)) 16))
 
 -- The loop's end: no two digits are left, or eight octets are full.
 few : (left : ℕ) (octets : List ℕ) (place : ℕ) (text : List ℕ) → length text < 2
-    → hex_from left octets place text ≡ record { good = true; octets = octets }
+    → hex_from left octets place text ≡ Some octets
 unfolding hex_from
 few zero octets place text h = refl
 few (suc left) octets place [] h = refl
@@ -79,19 +110,19 @@ few (suc left) octets place (a ∷ []) h = refl
 few (suc left) octets place (a ∷ b ∷ text) h = let z : ⊥ = omega arith in elim z [ ]
 
 pub hex_end : (octets : List ℕ) (place : ℕ) (text : List ℕ) → length text < 2 * place + 2
-    → hex_from (8 - place) octets place (drop (2 * place) text) ≡ record { good = true; octets = octets }
+    → hex_from (8 - place) octets place (drop (2 * place) text) ≡ Some octets
 hex_end octets place text h =
     let d : length (drop (2 * place) text) ≡ length text - 2 * place = length-drop (2 * place) text in
     few (8 - place) octets place (drop (2 * place) text) (omega arith)
 
 pub hex_full : (octets : List ℕ) (place : ℕ) (text : List ℕ) → 8 ≤ place
-    → hex_from (8 - place) octets place text ≡ record { good = true; octets = octets }
+    → hex_from (8 - place) octets place text ≡ Some octets
 unfolding hex_from
 hex_full octets place text h = let e : 8 - place ≡ 0 = omega arith in rw e
 
 -- Hex digits of even count, no more than there is room for, are read whole.
-abbrev pub hex_whole : List ℕ → ℕ → List ℕ → Hex
-hex_whole octets place text = cond (digits 16 text) (record { good = true; octets = sets octets place (octets_of text) }) no_hex
+abbrev pub hex_whole : List ℕ → ℕ → List ℕ → Option (List ℕ)
+hex_whole octets place text = cond (digits 16 text) (Some (sets octets place (octets_of text))) None
 
 pub hex_whole_lem : (left : ℕ) (octets : List ℕ) (place : ℕ) (text : List ℕ) → length text ≤ 2 * left → length text % 2 ≡ 0
     → hex_from left octets place text ≡ hex_whole octets place text
@@ -104,8 +135,8 @@ hex_whole_lem (suc left) octets place (a ∷ b ∷ text) h e =
     go (ltb (digit a) 16) (ltb (digit b) 16) (hex_whole_lem left (set octets place (16 * digit a + digit b)) (suc place) text (omega arith) (omega arith))
   where
     go : (s t : Bool) → hex_from left (set octets place (16 * digit a + digit b)) (suc place) text ≡ hex_whole (set octets place (16 * digit a + digit b)) (suc place) text
-        → cond (s && t) (hex_from left (set octets place (16 * digit a + digit b)) (suc place) text) no_hex
-        ≡ cond (s && (t && digits 16 text)) (record { good = true; octets = sets octets place ((16 * digit a + digit b) ∷ octets_of text) }) no_hex
+        → cond (s && t) (hex_from left (set octets place (16 * digit a + digit b)) (suc place) text) None
+        ≡ cond (s && (t && digits 16 text)) (Some (sets octets place ((16 * digit a + digit b) ∷ octets_of text))) None
     go true true ih = ih
     go true false ih = refl
     go false t ih = refl
@@ -118,7 +149,7 @@ number_grows n (b ∷ text) = let h : 10 * n + digit b ≤ number_from (10 * n +
 
 -- A number that is at most some greatest, in the terms of the loop that reads it.
 module _ (greatest : ℕ) where
-  over : (n : ℕ) (text : List ℕ) → greatest < n → decimal_from greatest n text ≡ 0
+  over : (n : ℕ) (text : List ℕ) → greatest < n → decimal_from greatest n text ≡ None
   unfolding decimal_from
   over n text h =
       let g : n ≤ number_from n text = number_grows n text in
@@ -130,19 +161,25 @@ module _ (greatest : ℕ) where
   decimal_one n b text h = rw (lt-ltb (digit b) 10 h)
 
   -- A turn of the loop.
-  module _ (n place : ℕ) (text : List ℕ) (next : ℕ) (h : place < length text) (p : next ≡ digit (get_or text place 0)) where
-    pub decimal_next : next < 10 → decimal_from greatest n (drop place text) ≡ decimal_from greatest (10 * n + next) (drop (place + 1) text)
-    decimal_next k =
-        let j : digit (get_or text place 0) < 10 = omega arith in
-        rw (drop-cons text place 0 h, decimal_one n (get_or text place 0) (drop (suc place) text) j, ← p, add-one place)
-
-    pub decimal_bad : 10 ≤ next → 0 ≡ decimal_from greatest n (drop place text)
+  module _ (n place : ℕ) (text : List ℕ) (h : place < length text) where
+    pub decimal_none : None ≡ digit_read (get_or text place 0) → None ≡ decimal_from greatest n (drop place text)
     unfolding decimal_from digits
-    decimal_bad k = rw (drop-cons text place 0 h, ← p, le-ltb next 10 k)
+    decimal_none p = let k : 16 ≤ digit (get_or text place 0) = digit_no _ p in rw (drop-cons text place 0 h, le-ltb (digit (get_or text place 0)) 10 (omega arith))
 
-    pub decimal_over : next < 10 → greatest < 10 * n + next → 0 ≡ decimal_from greatest n (drop place text)
-    decimal_over k l = sym (decimal_next k ∙ over (10 * n + next) (drop (place + 1) text) l)
+    module _ (next : ℕ) (p : Some next ≡ digit_read (get_or text place 0)) where
+      pub decimal_next : next < 10 → decimal_from greatest n (drop place text) ≡ decimal_from greatest (10 * n + next) (drop (place + 1) text)
+      decimal_next k =
+          let d = digit_some _ next p in
+          let j : digit (get_or text place 0) < 10 = omega arith in
+          rw (drop-cons text place 0 h, decimal_one n (get_or text place 0) (drop (suc place) text) j, ← d.0, add-one place)
 
-  pub decimal_end : (n place : ℕ) (text : List ℕ) → n ≤ greatest → length text ≤ place → decimal_from greatest n (drop place text) ≡ n
+      pub decimal_bad : 10 ≤ next → None ≡ decimal_from greatest n (drop place text)
+      unfolding decimal_from digits
+      decimal_bad k = let d = digit_some _ next p in rw (drop-cons text place 0 h, ← d.0, le-ltb next 10 k)
+
+      pub decimal_over : next < 10 → greatest < 10 * n + next → None ≡ decimal_from greatest n (drop place text)
+      decimal_over k l = sym (decimal_next k ∙ over (10 * n + next) (drop (place + 1) text) l)
+
+  pub decimal_end : (n place : ℕ) (text : List ℕ) → n ≤ greatest → length text ≤ place → decimal_from greatest n (drop place text) ≡ Some n
   unfolding decimal_from digits number_from
   decimal_end n place text k h = rw (drop_of_length-le text h, le-leb n greatest k)

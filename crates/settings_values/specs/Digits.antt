@@ -1,5 +1,5 @@
 -- Digits, and the octets and numbers that they write. Document 01, "Settings file": "hex digits", "decimal", "Upper or lower hex".
-use Rattle.std.specs.Prelude.{ℕ, ◌+◌, ◌-◌, ◌*◌, Bool, true, cond, ◌&&◌, List, [], ◌∷◌, leb, ltb}
+use Rattle.std.specs.Prelude.{ℕ, ◌+◌, ◌-◌, ◌*◌, Bool, true, cond, ◌&&◌, Option, Some, None, List, [], ◌∷◌, leb, ltb}
 
 -- `b` lies between the two, or is one of them.
 abbrev pub between : ℕ → ℕ → ℕ → Bool
@@ -11,6 +11,10 @@ digit b =
     cond (between 0x30 b 0x39) (b - 0x30)
     (cond (between 0x41 b 0x46) (b - 0x37)
     (cond (between 0x61 b 0x66) (b - 0x57) 16))
+
+-- The same for the function that reads a digit: none in place of 16.
+unfoldable pub digit_read : ℕ → Option ℕ
+digit_read b = cond (ltb (digit b) 16) (Some (digit b)) None
 
 -- Every octet is a digit below the base: 16 for hex digits, 10 for decimal ones, 8 for 0 to 7.
 unfoldable pub digits : ℕ → List ℕ → Bool

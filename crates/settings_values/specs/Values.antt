@@ -1,13 +1,9 @@
 -- The five values. Document 01, "Settings file": what each is written as; and what the functions that read them answer.
-use Rattle.std.specs.Prelude.{ℕ, zero, suc, ◌+◌, ◌-◌, ◌*◌, ◌%◌, ◌≤◌, ◌≡◌, Bool, true, false, cond, not, ◌&&◌, List, [], ◌∷◌, ◌++◌, leb, ltb, eqb, length, get_or, replicate, set, take}
+use Rattle.std.specs.Prelude.{ℕ, zero, suc, ◌+◌, ◌-◌, ◌*◌, ◌%◌, ◌≤◌, ◌≡◌, Bool, cond, not, ◌&&◌, Option, Some, None, List, [], ◌∷◌, ◌++◌, leb, ltb, eqb, length, get_or, replicate, set, take}
 use Rattle.timer.specs.Timers.{least_joining, greatest_joining, least_invitation, greatest_invitation}
 use Rattle.settings_values.specs.Digits.{digit, digits, octets_of, number_from}
 use Rattle.settings_values.specs.declared.Settings.{Settings}
-use Rattle.settings_values.specs.declared.KeyRead.{KeyRead}
-use Rattle.settings_values.specs.declared.ClassmarkRead.{ClassmarkRead}
-use Rattle.settings_values.specs.declared.IdentityRead.{IdentityRead}
-use Rattle.settings_values.specs.declared.MillisecondsRead.{MillisecondsRead}
-use Rattle.settings_values.specs.declared.Hex.{Hex}
+use Rattle.settings_values.specs.declared.OwnIdentity.{OwnIdentity}
 
 -- "`cksn=` one digit 0 to 7"
 abbrev pub is_key : List ℕ → Bool
@@ -37,10 +33,6 @@ is_invitation text = is_milliseconds least_invitation greatest_invitation text
 abbrev pub padded : List ℕ → List ℕ
 padded octets = octets ++ replicate (8 - length octets) 0
 
--- What a refusal holds: all zero, and an identity of no octets, so that no default can stand in.
-abbrev pub no_settings : Settings
-no_settings = record { key = 0; classmark = 0 ∷ 0 ∷ 0 ∷ []; identity = replicate 8 0; count = 0; joining = 0; invitation = 0 }
-
 -- Settings that a file can write: behind the identity's octets stand zeros up to eight.
 pub record InRange (s : Settings) : Type 0 where
   pub key : s.key ≤ 7
@@ -54,55 +46,39 @@ pub record InRange (s : Settings) : Type 0 where
   pub invitation-least : least_invitation ≤ s.invitation
   pub invitation-greatest : s.invitation ≤ greatest_invitation
 
--- What reading a text comes to: the value, or that it is none.
-abbrev pub no_key : KeyRead
-no_key = record { good = false; number = 0 }
+-- What reading a text comes to: the value, or none.
+unfoldable pub key_read : List ℕ → Option ℕ
+key_read text = cond (is_key text) (Some (digit (get_or text 0 0))) None
 
-unfoldable pub key_read : List ℕ → KeyRead
-key_read text = cond (is_key text) (record { good = true; number = digit (get_or text 0 0) }) no_key
+unfoldable pub classmark_read : List ℕ → Option (List ℕ)
+classmark_read text = cond (is_classmark text) (Some (octets_of text)) None
 
-abbrev pub no_classmark : ClassmarkRead
-no_classmark = record { good = false; octets = 0 ∷ 0 ∷ 0 ∷ [] }
+unfoldable pub identity_read : List ℕ → Option OwnIdentity
+identity_read text = cond (is_identity text) (Some (record { octets = padded (octets_of text); count = length (octets_of text) })) None
 
-unfoldable pub classmark_read : List ℕ → ClassmarkRead
-classmark_read text = cond (is_classmark text) (record { good = true; octets = octets_of text }) no_classmark
+unfoldable pub milliseconds_read : (least greatest : ℕ) → List ℕ → Option ℕ
+milliseconds_read least greatest text = cond (is_milliseconds least greatest text) (Some (number_from 0 text)) None
 
-abbrev pub no_identity : IdentityRead
-no_identity = record { good = false; octets = replicate 8 0; count = 0 }
-
-unfoldable pub identity_read : List ℕ → IdentityRead
-identity_read text =
-    cond (is_identity text) (record { good = true; octets = padded (octets_of text); count = length (octets_of text) }) no_identity
-
-abbrev pub no_milliseconds : MillisecondsRead
-no_milliseconds = record { good = false; milliseconds = 0 }
-
-unfoldable pub milliseconds_read : (least greatest : ℕ) → List ℕ → MillisecondsRead
-milliseconds_read least greatest text = cond (is_milliseconds least greatest text) (record { good = true; milliseconds = number_from 0 text }) no_milliseconds
-
-abbrev pub joining_read : List ℕ → MillisecondsRead
+abbrev pub joining_read : List ℕ → Option ℕ
 joining_read text = milliseconds_read least_joining greatest_joining text
 
-abbrev pub invitation_read : List ℕ → MillisecondsRead
+abbrev pub invitation_read : List ℕ → Option ℕ
 invitation_read text = milliseconds_read least_invitation greatest_invitation text
 
 -- For the functions beneath: octets that hex digits write two by two, stored from a place of eight octets on, at most as many as are left.
-abbrev pub no_hex : Hex
-no_hex = record { good = false; octets = replicate 8 0 }
-
-unfoldable pub hex_from : ℕ → List ℕ → ℕ → List ℕ → Hex
-hex_from zero octets place text = record { good = true; octets = octets }
-hex_from (suc left) octets place [] = record { good = true; octets = octets }
-hex_from (suc left) octets place (high ∷ []) = record { good = true; octets = octets }
+unfoldable pub hex_from : ℕ → List ℕ → ℕ → List ℕ → Option (List ℕ)
+hex_from zero octets place text = Some octets
+hex_from (suc left) octets place [] = Some octets
+hex_from (suc left) octets place (high ∷ []) = Some octets
 hex_from (suc left) octets place (high ∷ low ∷ text) =
-    cond (ltb (digit high) 16 && ltb (digit low) 16) (hex_from left (set octets place (16 * digit high + digit low)) (suc place) text) no_hex
+    cond (ltb (digit high) 16 && ltb (digit low) 16) (hex_from left (set octets place (16 * digit high + digit low)) (suc place) text) None
 
-unfoldable pub hex_of : List ℕ → Hex
+unfoldable pub hex_of : List ℕ → Option (List ℕ)
 hex_of text = hex_from 8 (replicate 8 0) 0 text
 
--- A decimal number behind digits that wrote `n`, and 0 where it is none or is over the greatest.
-unfoldable pub decimal_from : (greatest n : ℕ) → List ℕ → ℕ
-decimal_from greatest n text = cond (digits 10 text && leb (number_from n text) greatest) (number_from n text) 0
+-- A decimal number behind digits that wrote `n`, if it is at most the greatest.
+unfoldable pub decimal_from : (greatest n : ℕ) → List ℕ → Option ℕ
+decimal_from greatest n text = cond (digits 10 text && leb (number_from n text) greatest) (Some (number_from n text)) None
 
-unfoldable pub decimal_of : (greatest : ℕ) → List ℕ → ℕ
+unfoldable pub decimal_of : (greatest : ℕ) → List ℕ → Option ℕ
 decimal_of greatest text = decimal_from greatest 0 text

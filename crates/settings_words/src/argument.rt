@@ -1,128 +1,87 @@
 // Settings files as the arguments of a word.
 use crate::tell_settings;
-use codes::answer;
 use filing::arguments::{argument, has_arguments};
+use filing::ending::Failure;
 use filing::{read_argument, read_file};
 use settings::read_settings;
 use settings_values::Settings;
-use text::words::part;
 
 // The word `settings`.
-pub fn run_settings(rt: &HostRuntime) -> u8 {
+pub fn run_settings(rt: &HostRuntime) -> Result<(), Failure> {
     if !has_arguments(rt, 1, b"settings", b"one argument, a settings file") {
-        return 2;
+        return Err(Failure::NotRun);
     }
     let mut name = io::buffer();
-    let length = argument(rt, 2, &mut name);
-    let mut file = io::large_buffer();
-    let filed = read_file(rt, b"settings", part(&name, 0, length), &mut file);
-    if !filed.good {
-        return 2;
-    }
-    let count = filed.count;
-    let read = read_settings(part(&file, 0, count));
-    tell_settings(
-        part(&name, 0, length),
-        part(&file, 0, count),
-        filed.whole,
-        read,
-    )
-}
-
-// The settings of a radio; or the verdict, 1 or 2, where there are none.
-#[derive(Clone, Copy)]
-pub struct Fitted {
-    pub verdict: u8,
-    pub settings: Settings,
+    let path = argument(rt, 2, &mut name);
+    let mut room = io::large_buffer();
+    let file = read_file(rt, b"settings", path, &mut room)?;
+    tell_settings(path, file, read_settings(file.octets))
 }
 
 // The settings file that is the first argument of a word. One that is refused stops the word at its line.
-pub fn settings_argument(rt: &HostRuntime, word: &[u8]) -> Fitted {
+pub fn settings_argument(rt: &HostRuntime, word: &[u8]) -> Result<Settings, Failure> {
     settings_at(rt, word, 2)
 }
 
 // The settings file that is the argument at a place.
-fn settings_at(rt: &HostRuntime, word: &[u8], place: usize) -> Fitted {
+fn settings_at(rt: &HostRuntime, word: &[u8], place: usize) -> Result<Settings, Failure> {
     let mut name = io::buffer();
-    let length = argument(rt, place, &mut name);
-    let mut file = io::large_buffer();
-    let filed = read_file(rt, word, part(&name, 0, length), &mut file);
-    if !filed.good {
-        return Fitted {
-            verdict: 2,
-            settings: Settings::NONE,
-        };
+    let path = argument(rt, place, &mut name);
+    let mut room = io::large_buffer();
+    let file = read_file(rt, word, path, &mut room)?;
+    let read = read_settings(file.octets);
+    if let Ok(settings) = read {
+        return Ok(settings);
     }
-    let count = filed.count;
-    let read = read_settings(part(&file, 0, count));
-    let settings = read.settings;
-    if read.answer != answer::TAKEN {
-        let verdict = tell_settings(
-            part(&name, 0, length),
-            part(&file, 0, count),
-            filed.whole,
-            read,
-        );
-        return Fitted { verdict, settings };
-    }
-    Fitted {
-        verdict: 0,
-        settings,
-    }
+    tell_settings(path, file, read)?;
+    Err(Failure::Refused)
 }
 
-// The same with a log, of which the first `count` bytes of a lent buffer are. The verdict is 2 where one of them is missing.
+// The settings of a radio and a log, which is in a lent buffer.
 #[derive(Clone, Copy)]
-pub struct Ready {
-    pub verdict: u8,
+pub struct Ready<'a> {
     pub settings: Settings,
-    pub count: usize,
+    pub log: &'a [u8],
 }
 
 // The settings file and the log that are the two arguments of a word.
-pub fn settings_and_log(rt: &HostRuntime, word: &[u8], log: &mut [u8]) -> Ready {
-    settings_and_log_behind(rt, word, 0, log)
+pub fn settings_and_log<'a>(
+    rt: &HostRuntime,
+    word: &[u8],
+    room: &'a mut [u8],
+) -> Result<Ready<'a>, Failure> {
+    settings_and_log_behind(rt, word, 0, room)
 }
 
 // The same behind so many options.
-pub fn settings_and_log_behind(
+pub fn settings_and_log_behind<'a>(
     rt: &HostRuntime,
     word: &[u8],
     options: usize,
-    log: &mut [u8],
-) -> Ready {
-    let count = std::num::wrapping_add_usize(options, 2);
+    room: &'a mut [u8],
+) -> Result<Ready<'a>, Failure> {
+    let count = options.wrapping_add(2);
     if !has_arguments(rt, count, word, b"two arguments, a settings file and a log") {
-        return stopped();
+        return Err(Failure::NotRun);
     }
-    settings_before_log(rt, word, options, log)
+    settings_before_log(rt, word, options, room)
 }
 
 // The settings file and the log that are the first two arguments of a word behind so many options. Where the settings are refused, the log was not looked at: that is no
 // verdict on it.
-pub fn settings_before_log(rt: &HostRuntime, word: &[u8], options: usize, log: &mut [u8]) -> Ready {
-    let place = std::num::wrapping_add_usize(options, 2);
-    let fitted = settings_at(rt, word, place);
-    let settings = fitted.settings;
-    if fitted.verdict != 0 {
-        return stopped();
-    }
-    let filed = read_argument(rt, word, std::num::wrapping_add_usize(place, 1), log);
-    if !filed.good {
-        return stopped();
-    }
-    Ready {
-        verdict: 0,
+pub fn settings_before_log<'a>(
+    rt: &HostRuntime,
+    word: &[u8],
+    options: usize,
+    room: &'a mut [u8],
+) -> Result<Ready<'a>, Failure> {
+    let place = options.wrapping_add(2);
+    let Ok(settings) = settings_at(rt, word, place) else {
+        return Err(Failure::NotRun);
+    };
+    let filed = read_argument(rt, word, place.wrapping_add(1), room)?;
+    Ok(Ready {
         settings,
-        count: filed.count,
-    }
-}
-
-// The word does not go on.
-fn stopped() -> Ready {
-    Ready {
-        verdict: 2,
-        settings: Settings::NONE,
-        count: 0,
-    }
+        log: filed.octets,
+    })
 }

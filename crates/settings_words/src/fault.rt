@@ -1,60 +1,43 @@
 // Why a settings file is refused: the line's number, its text as far as it can be shown, and what was expected there.
-ghost use Rattle.std.specs.Prelude.{◌≤◌, length};
-
 use crate::line::{tell_mark, tell_number_of, tell_text};
+use filing::ending::Failure;
 use saying::{tell, tell_place};
 use settings_line::Fault;
-use text::words::{find, part};
+use text::words::part;
 
 const LF: u8 = 10;
 
 const CR: u8 = 13;
 
 // The file is refused at this line. Answers the verdict.
-pub(crate) fn tell_fault(file: &[u8], number: usize, fault: Fault) -> u8 {
+pub(crate) fn tell_fault(file: &[u8], number: usize, fault: Fault) -> Result<(), Failure> {
     tell(b": the settings are refused (answer 12)\n");
     let line = line_of(file, number);
     tell_number_of(number);
     tell_line(line, fault);
     tell_number_of(number);
     tell_wanted(line, fault);
-    1
+    Err(Failure::Refused)
 }
 
 // What was read of the file has no fault but that it does not end there.
-pub(crate) fn tell_too_long(file: &[u8], number: usize) -> u8 {
+pub(crate) fn tell_too_long(file: &[u8], number: usize) -> Result<(), Failure> {
     tell(b": the settings are refused (answer 12)\n");
     tell_number_of(number);
     tell(b"the file goes on here past ");
     tell_place(file.len());
     tell(b" bytes; settings are five lines, each once, and have at most 86 bytes\n");
-    1
+    Err(Failure::Refused)
 }
 
 // ---- the line
 
-// Where the line behind the one at `at` starts, or the file's end.
-fn line_behind(file: &[u8], at: usize) -> usize
-    requires { at ≤ length file.now }
-    ensures { result ≤ length file.now }
-{
-    let count = find(&file[at..], LF);
-    if count < file.len() - at {
-        return at + count + 1;
-    }
-    file.len()
-}
-
-// The line of a number, counted from 1, without its LF.
+// The line of a number, counted from 1, without its LF; nothing where the file has fewer.
 fn line_of(file: &[u8], number: usize) -> &[u8] {
-    let mut at = 0;
-    let mut left = number;
-    while 1 < left {
-        at = line_behind(file, at);
-        left -= 1;
-    }
-    let count = find(part(file, at, file.len() - at), LF);
-    part(file, at, count)
+    let mut lines = file.split(|byte| *byte == LF);
+    lines
+        .nth(number.saturating_sub(1))
+        .unwrap_or(part(file, 0, 0))
 }
 
 fn tell_line(line: &[u8], fault: Fault) {
@@ -82,16 +65,11 @@ fn tell_wanted(line: &[u8], fault: Fault) {
 }
 
 fn ends_with_return(line: &[u8]) -> bool {
-    let count = line.len();
-    if count == 0 {
-        return false;
-    }
-    line[count - 1] == CR
+    line.last().copied() == Some(CR)
 }
 
 fn tell_mend(fault: Fault) {
     match fault {
-        Fault::Fine => tell(b"nothing is wrong"),
         Fault::NoLineFeed => tell(b"the file ends without LF: end this line too with a line end"),
         Fault::UnknownName => tell(
             b"a line starts with cksn= or classmark= or identity= or conn_req_ms= or present_ms=, in lower case, without a space; no line is empty",

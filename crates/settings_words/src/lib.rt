@@ -5,41 +5,51 @@ pub mod argument;
 mod fault;
 pub mod line;
 
-use codes::answer;
 use fault::{tell_fault, tell_too_long};
+use filing::Filed;
+use filing::ending::Failure;
 use saying::shown::tell_name;
 use saying::{STDOUT_FILENO, tell, tell_hex, tell_number, tell_place};
-use settings::ReadSettings;
+use settings::Refusal;
 use settings_line::Fault;
 use settings_values::Settings;
 use text::words::part;
 
-// Tells what was read of `file`, the bytes of the file at `path`, and answers the verdict. `whole` is false where the file has more bytes
-// than these.
-pub fn tell_settings(path: &[u8], file: &[u8], whole: bool, read: ReadSettings) -> u8 {
-    let line = read.line;
-    let fault = read.fault;
-    let settings = read.settings;
+// Tells what was read of the file at `path`.
+pub fn tell_settings(
+    path: &[u8],
+    file: Filed,
+    read: Result<Settings, Refusal>,
+) -> Result<(), Failure> {
+    let whole = file.whole;
+    let file = file.octets;
     tell_name(path);
-    if whole {
-        if read.answer == answer::TAKEN {
-            return tell_read(settings);
+    match read {
+        Ok(settings) if whole => tell_read(settings),
+        // Not of a file that goes on: settings that can be read are a whole file, and a short one.
+        Ok(_) => tell_too_long(file, 0),
+        Err(refusal) if whole || stays(refusal.fault) => {
+            tell_fault(file, refusal.line, refusal.fault)
         }
-        return tell_fault(file, line, fault);
-    }
-    match fault {
-        Fault::UnknownName => tell_fault(file, line, fault),
-        Fault::BadKey => tell_fault(file, line, fault),
-        Fault::BadClassmark => tell_fault(file, line, fault),
-        Fault::BadIdentity => tell_fault(file, line, fault),
-        Fault::BadJoining => tell_fault(file, line, fault),
-        Fault::BadInvitation => tell_fault(file, line, fault),
-        Fault::Repeated => tell_fault(file, line, fault),
-        _ => tell_too_long(file, line),
+        Err(refusal) => tell_too_long(file, refusal.line),
     }
 }
 
-fn tell_read(settings: Settings) -> u8 {
+// A fault of a line stays one however the file goes on; that a line has no LF, or a name no line, may be because the file was cut.
+fn stays(fault: Fault) -> bool {
+    match fault {
+        Fault::UnknownName
+        | Fault::BadKey
+        | Fault::BadClassmark
+        | Fault::BadIdentity
+        | Fault::BadJoining
+        | Fault::BadInvitation
+        | Fault::Repeated => true,
+        _ => false,
+    }
+}
+
+fn tell_read(settings: Settings) -> Result<(), Failure> {
     let classmark = settings.classmark;
     let identity = settings.identity;
     let count = settings.count;
@@ -55,7 +65,7 @@ fn tell_read(settings: Settings) -> u8 {
     tell_milliseconds(settings.joining);
     tell(b"invitation timer T_pres ");
     tell_milliseconds(settings.invitation);
-    0
+    Ok(())
 }
 
 fn tell_milliseconds(milliseconds: u32) {

@@ -8,7 +8,7 @@ use forms::{say_words, take_words, up_to};
 use octets::copy_to;
 use step_numbers::{Occurrence, Step};
 use text::output::Output;
-use text::words::{Words, finished, part};
+use text::words::{finished, part};
 use version::Table;
 
 // Forms stand in rows of so many characters, a broadcast call's before a group call's.
@@ -25,32 +25,31 @@ fn row_of(table: Table) -> usize {
 pub fn answer_step(
     table: Table,
     line: &[u8],
-    words: Words,
+    at: usize,
     octets: &mut [u8],
     buffer: &mut [u8],
     output: Output,
 ) -> Output {
     let mut record = [0u8; 36];
-    let rest = take_step_words(row_of(table), line, words, &mut record, octets);
-    if !finished(line, rest) {
-        return malformed(buffer, output);
+    match take_step_words(row_of(table), line, at, &mut record, octets) {
+        Some(end) if finished(line, end) => say_step(table, &record, octets, buffer, output),
+        _ => malformed(buffer, output),
     }
-    say_step(table, &record, octets, buffer, output)
 }
 
 // The record: 0 to 8 STATE PARAMS TIMERS TV REF FROM, which are a context's first octets, 9 and 10 CHOOSER PENDING, which a group call alone has; 11 to 23 CKSN
 // CLASSMARK IDENTITY, which are the settings' octets; 24 BUFLEN, 25 EVENT, 26 ETV, 27 to 30 EREF, 31 MODE, 32 and 33 OCTETS. A group call has no T_pres among its
 // timers.
 fn take_step_words(
-    at: usize,
+    row: usize,
     line: &[u8],
-    words: Words,
+    at: usize,
     record: &mut [u8; 36],
     octets: &mut [u8],
-) -> Words {
+) -> Option<usize> {
     let forms = *b"8458R8..8MILL8R8O.......\
         8448R8838MILL8R8O.......";
-    take_words(line, words, part(&forms, at, ROW), record, octets)
+    take_words(line, at, part(&forms, row, ROW), record, octets)
 }
 
 // 16 a value awaited + 8 a STATUS pending + 4 a termination request pending + who chose the value, of which 3 and more are nobody.

@@ -3,6 +3,7 @@
 use mathlib.Core.Path.{◌≡◌, refl, sym, ◌∙◌}
 use mathlib.Core.Bool.{true, false, not, ◌||◌}
 use Rattle.octets.proofs.Choice.{never}
+use Rattle.std.specs.Prelude.{Some}
 use Rattle.codes.specs.declared.state.State.{State}
 use Rattle.codes.specs.declared.state.State.TheVariants.{U0, U0p, U1, U2, U3, U4, U5, U6, U2sl, U2wr, U2r, U2ws, U2sr, U2nc}
 use Rattle.timer.specs.declared.Timers.{Timers}
@@ -52,17 +53,17 @@ abbrev timed : Context → Context
 timed x = record {
   state = x.state;
   parameters = x.parameters;
-  timers = with_timer Pres true x.timers;
+  timers = with_timer (Some Pres) true x.timers;
   value = x.value;
   reference = x.reference;
   remembered = x.remembered;
   talk = x.talk;
 }
 
-set_there : (t : Timers) → timers_fit_by (fitness_of Second) U3 t ≡ true → timers_fit_by (fitness_of Third) U3 (with_timer Pres true t) ≡ true
+set_there : (t : Timers) → timers_fit_by (fitness_of Second) U3 t ≡ true → timers_fit_by (fitness_of Third) U3 (with_timer (Some Pres) true t) ≡ true
 unfolding timers_fit_by fitness_of with_timer
 set_there t e =
-    if_so (timers_fit_by (fitness_of Second) U3 t) _ (at_timers (λ t. not (timers_fit_by (fitness_of Second) U3 t) || timers_fit_by (fitness_of Third) U3 (with_timer Pres true t)) refl t) e
+    if_so (timers_fit_by (fitness_of Second) U3 t) _ (at_timers (λ t. not (timers_fit_by (fitness_of Second) U3 t) || timers_fit_by (fitness_of Third) U3 (with_timer (Some Pres) true t)) refl t) e
 
 pub timed-fit : (x : Context) → x.state ≡ U3 → fit_of Second x ≡ true → fit_of Third (timed x) ≡ true
 unfolding consistent_by remembered_fit_by talk_fit_by chooser_fit_by pending_fit_by fitness_of protocol_of

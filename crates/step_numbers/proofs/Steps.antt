@@ -13,7 +13,7 @@ use Rattle.version.specs.declared.Table.{Table}
 use Rattle.radio.specs.declared.Happened.{Happened}
 use Rattle.radio.specs.declared.Stepped.{Stepped}
 use Rattle.radio.specs.Step.{Reaction, shown, step_of}
-use Rattle.context_octets.specs.declared.Reading.TheVariants.{Is, NoContext}
+use Rattle.std.specs.Prelude.{Some, None}
 use Rattle.context_octets.specs.Octets.{context_of, octets_of}
 use Rattle.settings_octets.specs.Octets.{identity_of, identity_run, own_of}
 use Rattle.step_numbers.specs.declared.Occurrence.{Occurrence}
@@ -50,11 +50,11 @@ module _ (table : Table) (s d : List ℕ) (x : Context) (e : Occurrence) (m : Li
 
 -- The call: the octets are a context, or none.
 module _ (table : Table) (c s d : List ℕ) (e : Occurrence) (m : List ℕ) where
-  pub call_is : (x : Context) → context_of c ≡ Is x → (r : Step) (octets after : List ℕ) → Comes (call_from table s (length d) e m x) d r octets after
+  pub call_is : (x : Context) → context_of c ≡ Some x → (r : Step) (octets after : List ℕ) → Comes (call_from table s (length d) e m x) d r octets after
       → Comes (call_of table c s (length d) e m) d r octets after
   unfolding call_of call_on
   call_is x i r octets after p = rw i p
 
-  pub call_none : context_of c ≡ NoContext → Comes (call_of table c s (length d) e m) d (no_call c).step c d
+  pub call_none : context_of c ≡ None → Comes (call_of table c s (length d) e m) d (no_call c).step c d
   unfolding call_of call_on
   call_none n = rw n (refl, refl, refl)

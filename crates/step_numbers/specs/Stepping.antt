@@ -1,13 +1,11 @@
 -- The step, as C calls it, by a table: sixteen octets of context, twenty-one of settings, an event in numbers, a message and a reply buffer of a length.
-use Rattle.std.specs.Prelude.{ℕ, ◌≡◌, List, []}
+use Rattle.std.specs.Prelude.{ℕ, ◌≡◌, List, [], Option, Some, None}
 use Rattle.std.proofs.lemmas.List.Edits.{sets}
 use Rattle.context.specs.declared.Context.{Context}
 use Rattle.version.specs.declared.Table.{Table}
 use Rattle.radio.specs.declared.Happened.{Happened}
 use Rattle.radio.specs.declared.Outcome.{Outcome}
 use Rattle.radio.specs.Step.{Reaction, shown, step_of}
-use Rattle.context_octets.specs.declared.Reading.{Reading}
-use Rattle.context_octets.specs.declared.Reading.TheVariants.{Is, NoContext}
 use Rattle.context_octets.specs.Octets.{context_of, octets_of}
 use Rattle.settings_octets.specs.Octets.{identity_of, own_of}
 use Rattle.step_numbers.specs.declared.Occurrence.{Occurrence}
@@ -48,9 +46,9 @@ call_from table s room e m x = called (step_of table (own_of s) (identity_of s) 
 abbrev pub no_call : List ℕ → Call
 no_call c = record { step = record { answer = 7; reason = 0; actions = 0; count = 0 }; context = c; reply = [] }
 
-unfoldable pub call_on : Table → (context settings : List ℕ) (room : ℕ) → Occurrence → (message : List ℕ) → Reading → Call
-call_on table c s room e m (Is x) = call_from table s room e m x
-call_on table c s room e m NoContext = no_call c
+unfoldable pub call_on : Table → (context settings : List ℕ) (room : ℕ) → Occurrence → (message : List ℕ) → Option Context → Call
+call_on table c s room e m (Some x) = call_from table s room e m x
+call_on table c s room e m None = no_call c
 
 -- The call.
 unfoldable pub call_of : Table → (context settings : List ℕ) (room : ℕ) → Occurrence → (message : List ℕ) → Call

@@ -11,7 +11,6 @@ ghost use Rattle.step_numbers.specs.Stepping.{Comes, call_from, call_of, happene
 
 use codes::wide::answer;
 use context::Context;
-use context_octets::Reading;
 use message::Own;
 use octets::{Reference, Run};
 use radio::{Happened, Outcome, Stepped};
@@ -139,13 +138,13 @@ pub fn take_step(
     ensures { Comes (call_of table context.old settings.now (length reply.old) event message.now)
         reply.old result context.new reply.new }
 {
-    match context_octets::read(context) {
-        Reading::Is(from) => step_from(table, from, context, settings, event, message, reply),
-        Reading::NoContext => Step {
+    let Some(from) = context_octets::read(context) else {
+        return Step {
             answer: answer::NO_CONTEXT,
             reason: 0,
             actions: 0,
             count: 0,
-        },
-    }
+        };
+    };
+    step_from(table, from, context, settings, event, message, reply)
 }

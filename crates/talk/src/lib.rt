@@ -14,31 +14,21 @@ use context::{Chooser, Context, Talk};
 use timer::Timer;
 use transitions::{Note, Stores};
 
-// U2ws, by its number.
-const U2WS: usize = 11;
-
 // This side chose the transaction value.
 fn chosen_by(chooser: Chooser, talk: Talk) -> Talk
     ensures { result ≡ record { chooser = chooser; termination = talk.termination; status = talk.status; awaiting = talk.awaiting } }
 {
-    Talk {
-        chooser,
-        termination: talk.termination,
-        status: talk.status,
-        awaiting: talk.awaiting,
-    }
+    Talk { chooser, ..talk }
 }
 
 // This is pending: a termination request, a STATUS.
 fn pending(termination: bool, status: bool, talk: Talk) -> Talk
     ensures { result ≡ record { chooser = talk.chooser; termination = termination; status = status; awaiting = talk.awaiting } }
 {
-    let chooser = talk.chooser;
     Talk {
-        chooser,
         termination,
         status,
-        awaiting: talk.awaiting,
+        ..talk
     }
 }
 
@@ -46,27 +36,17 @@ fn pending(termination: bool, status: bool, talk: Talk) -> Talk
 fn awaited(awaiting: bool, talk: Talk) -> Talk
     ensures { result ≡ record { chooser = talk.chooser; termination = talk.termination; status = talk.status; awaiting = awaiting } }
 {
-    let chooser = talk.chooser;
-    Talk {
-        chooser,
-        termination: talk.termination,
-        status: talk.status,
-        awaiting,
-    }
+    Talk { awaiting, ..talk }
 }
 
 // Whether a row that leads there changes nothing of what is kept: it notes nothing, and U2ws is not entered. So it is with every row of a broadcast call.
+#[tactic(auto, unfolding(crate::specs::Quiet::is_quiet))]
 fn is_quiet(note: Note, next: State) -> bool
     ensures { result ≡ is_quiet note next }
 {
-    let after = context::state_number(next);
     match note {
-        Note::Nothing => !(after == U2WS),
-        Note::WeChose => false,
-        Note::CellChose => false,
-        Note::TerminationPends => false,
-        Note::StatusPends => false,
-        Note::TerminationDropped => false,
+        Note::Nothing => next != State::U2ws,
+        _ => false,
     }
 }
 
@@ -88,21 +68,11 @@ fn noted(note: Note, talk: Talk) -> Talk
 fn with_value(value: u8, context: Context) -> Context
     ensures { result ≡ with_value value context }
 {
-    let state = context.state;
-    let parameters = context.parameters;
-    let timers = context.timers;
-    let reference = context.reference;
-    let remembered = context.remembered;
-    let before = context.talk;
-    let talk = awaited(false, before);
+    let talk = awaited(false, context.talk);
     Context {
-        state,
-        parameters,
-        timers,
         value,
-        reference,
-        remembered,
         talk,
+        ..context
     }
 }
 
@@ -118,20 +88,17 @@ pub fn adopted(context: Context, seen: Seen) -> Context
 }
 
 // The parameters before a state is entered: CONNECT in a group call names us as originator, or not.
+#[tactic(auto, unfolding(call::specs::Talk::originating))]
 pub fn originating(stores: Stores, attributes: u8, parameters: Parameters) -> Parameters
     ensures { result ≡ originating stores attributes parameters }
 {
     let told = codes::attributes::parameters_of(attributes);
     match stores {
-        Stores::Nothing => parameters,
-        Stores::ValueAndReference => parameters,
-        Stores::ItsReference => parameters,
         Stores::ItsReferenceAndOriginator => Parameters {
             orig: told.orig,
-            comm: parameters.comm,
-            datt: parameters.datt,
-            uatt: parameters.uatt,
+            ..parameters
         },
+        _ => parameters,
     }
 }
 
@@ -139,9 +106,7 @@ pub fn originating(stores: Stores, attributes: u8, parameters: Parameters) -> Pa
 fn awaiting_after(from: State, next: State, parameters: Parameters, talk: Talk) -> Talk
     ensures { result ≡ awaiting_after from next parameters talk }
 {
-    let before = context::state_number(from);
-    let after = context::state_number(next);
-    let entered = (after == U2WS) & (!(before == after) & !parameters.orig);
+    let entered = (next == State::U2ws) & ((from != next) & !parameters.orig);
     awaited(talk.awaiting | entered, talk)
 }
 
@@ -175,20 +140,7 @@ pub fn sent_in(context: Context) -> Sent
 fn keeping(talk: Talk, context: Context) -> Context
     ensures { result ≡ record { state = context.state; parameters = context.parameters; timers = context.timers; value = context.value; reference = context.reference; remembered = context.remembered; talk = talk } }
 {
-    let state = context.state;
-    let parameters = context.parameters;
-    let timers = context.timers;
-    let reference = context.reference;
-    let remembered = context.remembered;
-    Context {
-        state,
-        parameters,
-        timers,
-        value: context.value,
-        reference,
-        remembered,
-        talk,
-    }
+    Context { talk, ..context }
 }
 
 // A STATUS that is sent is no longer pending.
@@ -206,21 +158,19 @@ fn requested(context: Context) -> Context
 {
     let here = context.state;
     let ran = context.timers;
-    let reference = context.reference;
     let before = context.talk;
     let parameters = context::start_row(State::U5);
-    let stopped = timer::with_timer(Timer::MmEst, false, ran);
-    let timers = timer::with_timer(Timer::Term, true, stopped);
+    let stopped = timer::with_timer(Some(Timer::MmEst), false, ran);
+    let timers = timer::with_timer(Some(Timer::Term), true, stopped);
     let remembered = context::remembering(here);
     let talk = pending(false, before.status, before);
     Context {
         state: State::U5,
         parameters,
         timers,
-        value: context.value,
-        reference,
         remembered,
         talk,
+        ..context
     }
 }
 

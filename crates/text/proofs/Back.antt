@@ -9,6 +9,7 @@ use mathlib.Core.List.{append_assoc, append-nil}
 use lib.Seq.{sets}
 use lib.Dec.{ltb}
 use borrow.Author.Tests.{le-leb, lt-leb, le-ltb, ne_eqb, ltb-true, ltb-false}
+use Rattle.std.specs.Prelude.{Some}
 use Rattle.text.specs.Hex.{digit_of, hex_of, is_digit, value_of, digits_before, octets_of, spells, spelt, spelt_leaves}
 use Rattle.text.specs.Decimal.{digits_from, number_of, digits_of, decimal_of}
 use Rattle.text.proofs.Spelling.{hex_length}
@@ -111,8 +112,8 @@ leads (suc k) n f l = go (ltb n 10) refl (leads k (n / 10))
         let q : 1 ≤ n / 10 = omega arith in
         leads_append (digits_of k (n / 10)) ((48 + n % 10) ∷ []) (back (f h) q)
 
-led : (t : List ℕ) (most n : ℕ) → Leads t → digits_from most 0 t ≡ record { good = true; value = n }
-    → number_of t most ≡ record { good = true; value = n }
+led : (t : List ℕ) (most n : ℕ) → Leads t → digits_from most 0 t ≡ Some n
+    → number_of t most ≡ Some n
 unfolding number_of
 led [] most n h e = elim h [ ]
 led (c ∷ cs) most n h e =
@@ -123,23 +124,23 @@ led (c ∷ cs) most n h e =
 twenty : (n : ℕ) → n ≤ 18446744073709551615 → Fits 20 n
 twenty n l = λ h1 h2 h3 h4 h5 h6 h7 h8 h9 h10 h11 h12 h13 h14 h15 h16 h17 h18 h19 h20. omega arith
 
-zero-back : (most : ℕ) → number_of (digits_of 20 0) most ≡ record { good = true; value = 0 }
+zero-back : (most : ℕ) → number_of (digits_of 20 0) most ≡ Some 0
 unfolding number_of digits_of
 zero-back most = refl
 
 -- Reading a number that was written gives it back, within the limit.
-pub decimal_back : (n most : ℕ) → n ≤ 18446744073709551615 → n ≤ most → number_of (decimal_of n) most ≡ record { good = true; value = n }
+pub decimal_back : (n most : ℕ) → n ≤ 18446744073709551615 → n ≤ most → number_of (decimal_of n) most ≡ Some n
 unfolding decimal_of digits_from
 decimal_back zero most l m = zero-back most
 decimal_back (suc n) most l m =
     let f = twenty (suc n) l in
-    let e : digits_from most 0 (digits_of 20 (suc n)) ≡ record { good = true; value = suc n } =
+    let e : digits_from most 0 (digits_of 20 (suc n)) ≡ Some (suc n) =
     ap (digits_from most 0) (sym (append-nil (digits_of 20 (suc n)))) ∙ digits-back 20 (suc n) most [] f m in
     led (digits_of 20 (suc n)) most (suc n) (leads 20 (suc n) f (omega arith)) e
 
 -- Reading octets that were written, where they have room, gives them back.
 pub read_back : (either : Bool) (os b : List ℕ) (at : ℕ) → Octets os → at + length os ≤ length b
-    → (spelt either (hex_of os) b at ≡ record { good = true; count = length os }) × (spelt_leaves either (hex_of os) b at ≡ sets b at os)
+    → (spelt either (hex_of os) b at ≡ Some (length os)) × (spelt_leaves either (hex_of os) b at ≡ sets b at os)
 unfolding spells spelt spelt_leaves
 read_back either os b at h l =
     let n : length (hex_of os) ≡ 2 * length os = hex_length os in

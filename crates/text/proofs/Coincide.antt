@@ -3,11 +3,9 @@ use Prim.Native.Nat.{ℕ}
 use mathlib.Core.Path.{◌≡◌, sym, ◌∙◌}
 use mathlib.Core.Bool.{Bool}
 use mathlib.Core.List.{List}
-use Rattle.text.specs.declared.decimal.Number.{Number}
-use Rattle.text.specs.declared.hex.Spelt.{Spelt}
+use Rattle.std.specs.Prelude.{Option}
 use Rattle.text.specs.declared.output.Output.{Output}
 use Rattle.text.specs.declared.words.Word.{Word}
-use Rattle.text.specs.declared.words.Words.{Words}
 use Rattle.text.specs.Decimal.{number_of}
 use Rattle.text.specs.Hex.{digits_before, spelt, spelt_leaves}
 use Rattle.text.specs.Output.{behind, put_leaves}
@@ -18,7 +16,7 @@ coincide : {A : Type 0} (x y meaning : A) → x ≡ meaning → y ≡ meaning �
 coincide x y meaning p q = p ∙ sym q
 
 -- decimal::number_of
-pub number_of_coincides : (t : List ℕ) (most : ℕ) (x y : Number) → x ≡ number_of t most → y ≡ number_of t most → x ≡ y
+pub number_of_coincides : (t : List ℕ) (most : ℕ) (x y : Option ℕ) → x ≡ number_of t most → y ≡ number_of t most → x ≡ y
 number_of_coincides t most x y = coincide x y (number_of t most)
 
 -- hex::digits_before
@@ -26,7 +24,7 @@ pub digits-before_coincides : (either : Bool) (t : List ℕ) (x y : ℕ) → x �
 digits-before_coincides either t x y = coincide x y (digits_before either t)
 
 -- hex::read_hex, its answer and the buffer
-pub read_hex_coincides : (either : Bool) (t b : List ℕ) (at : ℕ) (x y : Spelt) → x ≡ spelt either t b at → y ≡ spelt either t b at → x ≡ y
+pub read_hex_coincides : (either : Bool) (t b : List ℕ) (at : ℕ) (x y : Option ℕ) → x ≡ spelt either t b at → y ≡ spelt either t b at → x ≡ y
 read_hex_coincides either t b at x y = coincide x y (spelt either t b at)
 
 pub read_hex_leaves_coincide : (either : Bool) (t b : List ℕ) (at : ℕ) (x y : List ℕ)
@@ -53,9 +51,9 @@ pub part_coincides : (t : List ℕ) (start count : ℕ) (x y : List ℕ) → x �
 part_coincides t start count x y = coincide x y (part_of t start count)
 
 -- words::next_word
-pub next_word_coincides : (t : List ℕ) (w : Words) (x y : Word) → x ≡ word_from t w → y ≡ word_from t w → x ≡ y
-next_word_coincides t w x y = coincide x y (word_from t w)
+pub next_word_coincides : (t : List ℕ) (at : ℕ) (x y : Option Word) → x ≡ word_from t at → y ≡ word_from t at → x ≡ y
+next_word_coincides t at x y = coincide x y (word_from t at)
 
 -- words::finished
-pub finished_coincides : (t : List ℕ) (w : Words) (x y : Bool) → x ≡ finished_at t w → y ≡ finished_at t w → x ≡ y
-finished_coincides t w x y = coincide x y (finished_at t w)
+pub finished_coincides : (t : List ℕ) (at : ℕ) (x y : Bool) → x ≡ finished_at t at → y ≡ finished_at t at → x ≡ y
+finished_coincides t at x y = coincide x y (finished_at t at)

@@ -11,34 +11,34 @@ use lib.Seq.{sets, drop-cons}
 use lib.Dec.{ltb}
 use borrow.Author.Tests.{le-leb, lt-leb, le-ltb, lt-ltb, eq-eqb, ne_eqb}
 use Rattle.octets.proofs.Stores.{sets-append}
-use Rattle.text.specs.declared.decimal.Number.{Number}
-use Rattle.text.specs.Decimal.{no_number, digits_from, number_of, digits_of}
+use Rattle.std.specs.Prelude.{Option, Some, None}
+use Rattle.text.specs.Decimal.{digits_from, number_of, digits_of}
 
 -- A turn of the loop that reads: a character that is a digit, one that is none, a number that passes the limit; and the loop's end.
-pub number-on : (most sofar : ℕ) (t : List ℕ) (i d : ℕ) (x : Number) → i < length t → d ≡ get_or t i 0 → 48 ≤ d → d ≤ 57
+pub number-on : (most sofar : ℕ) (t : List ℕ) (i d : ℕ) (x : Option ℕ) → i < length t → d ≡ get_or t i 0 → 48 ≤ d → d ≤ 57
     → 10 * sofar + (d - 48) ≤ most → digits_from most sofar (drop i t) ≡ x → digits_from most (10 * sofar + (d - 48)) (drop (i + 1) t) ≡ x
 unfolding digits_from
 number-on most sofar t i d x h e l u k p =
     rw (add-one i) (rw (drop-cons t i 0 h, ← e, le-leb _ _ l, le-leb _ _ u, le-leb _ _ k) at p)
 
-pub number_below : (most sofar : ℕ) (t : List ℕ) (i d : ℕ) (x : Number) → i < length t → d ≡ get_or t i 0 → d < 48
-    → digits_from most sofar (drop i t) ≡ x → no_number ≡ x
+pub number_below : (most sofar : ℕ) (t : List ℕ) (i d : ℕ) (x : Option ℕ) → i < length t → d ≡ get_or t i 0 → d < 48
+    → digits_from most sofar (drop i t) ≡ x → None ≡ x
 unfolding digits_from
 number_below most sofar t i d x h e l p = rw (drop-cons t i 0 h, ← e, lt-leb _ _ l) at p
 
-pub number_above : (most sofar : ℕ) (t : List ℕ) (i d : ℕ) (x : Number) → i < length t → d ≡ get_or t i 0 → 48 ≤ d → 57 < d
-    → digits_from most sofar (drop i t) ≡ x → no_number ≡ x
+pub number_above : (most sofar : ℕ) (t : List ℕ) (i d : ℕ) (x : Option ℕ) → i < length t → d ≡ get_or t i 0 → 48 ≤ d → 57 < d
+    → digits_from most sofar (drop i t) ≡ x → None ≡ x
 unfolding digits_from
 number_above most sofar t i d x h e l u p = rw (drop-cons t i 0 h, ← e, le-leb _ _ l, lt-leb _ _ u) at p
 
-pub number_past : (most sofar : ℕ) (t : List ℕ) (i d : ℕ) (x : Number) → i < length t → d ≡ get_or t i 0 → 48 ≤ d → d ≤ 57
-    → most < 10 * sofar + (d - 48) → digits_from most sofar (drop i t) ≡ x → no_number ≡ x
+pub number_past : (most sofar : ℕ) (t : List ℕ) (i d : ℕ) (x : Option ℕ) → i < length t → d ≡ get_or t i 0 → 48 ≤ d → d ≤ 57
+    → most < 10 * sofar + (d - 48) → digits_from most sofar (drop i t) ≡ x → None ≡ x
 unfolding digits_from
 number_past most sofar t i d x h e l u k p =
     rw (drop-cons t i 0 h, ← e, le-leb _ _ l, le-leb _ _ u, lt-leb _ _ k) at p
 
-pub number-done : (most sofar : ℕ) (t : List ℕ) (i : ℕ) (x : Number) → length t ≤ i
-    → digits_from most sofar (drop i t) ≡ x → record { good = true; value = sofar } ≡ x
+pub number-done : (most sofar : ℕ) (t : List ℕ) (i : ℕ) (x : Option ℕ) → length t ≤ i
+    → digits_from most sofar (drop i t) ≡ x → Some sofar ≡ x
 unfolding digits_from
 number-done most sofar t i x h p = rw (drop_of_length-le t h) at p
 
@@ -78,19 +78,19 @@ digits_more (suc k) n r b e h l p =
     )
 
 -- The ways to a number.
-pub number-empty : (t : List ℕ) (most : ℕ) → length t ≡ 0 → no_number ≡ number_of t most
+pub number-empty : (t : List ℕ) (most : ℕ) → length t ≡ 0 → None ≡ number_of t most
 unfolding number_of
 number-empty t most h = simp (eq-eqb _ _ h)
 
-pub number-zero : (t : List ℕ) (most : ℕ) → get_or t 0 0 ≡ 48 → length t ≡ 1 → record { good = true; value = 0 } ≡ number_of t most
+pub number-zero : (t : List ℕ) (most : ℕ) → get_or t 0 0 ≡ 48 → length t ≡ 1 → Some 0 ≡ number_of t most
 unfolding number_of
 number-zero t most z h =
     let n : length t ≡ 0 → ⊥ = (λ e. omega arith) in simp (ne_eqb _ _ n, eq-eqb _ _ z, eq-eqb _ _ h)
 
-pub number_front : (t : List ℕ) (most : ℕ) → (length t ≡ 0 → ⊥) → get_or t 0 0 ≡ 48 → (length t ≡ 1 → ⊥) → no_number ≡ number_of t most
+pub number_front : (t : List ℕ) (most : ℕ) → (length t ≡ 0 → ⊥) → get_or t 0 0 ≡ 48 → (length t ≡ 1 → ⊥) → None ≡ number_of t most
 unfolding number_of
 number_front t most n z h = simp (ne_eqb _ _ n, eq-eqb _ _ z, ne_eqb _ _ h)
 
-pub number-whole : (t : List ℕ) (most : ℕ) (r : Number) → (length t ≡ 0 → ⊥) → (get_or t 0 0 ≡ 48 → ⊥) → r ≡ digits_from most 0 t → r ≡ number_of t most
+pub number-whole : (t : List ℕ) (most : ℕ) (r : Option ℕ) → (length t ≡ 0 → ⊥) → (get_or t 0 0 ≡ 48 → ⊥) → r ≡ digits_from most 0 t → r ≡ number_of t most
 unfolding number_of
 number-whole t most r n z e = simp (ne_eqb _ _ n, ne_eqb _ _ z) e

@@ -1,14 +1,15 @@
 -- Laws of hexadecimal: the loops that write and read it, and what is refused.
 use Prim.Native.Nat.{ℕ, suc, ◌+◌, ◌*◌, ◌/◌, ◌%◌, ◌≤◌, ◌<◌}
 use mathlib.Core.Path.{◌≡◌, refl}
-use mathlib.Core.Bool.{Bool, true, false}
+use mathlib.Core.Bool.{Bool, false}
 use mathlib.Core.List.{List, [], ◌∷◌}
 use native.Mathlib.Omega.{arith}
 use native.Mathlib.Numerals.{add-one}
 use lib.ListN.{length, get_or, drop, set, length-drop, drop_of_length-le}
 use lib.Seq.{sets, drop-cons}
 use borrow.Author.Tests.{le-leb, lt-leb, le-ltb, lt-ltb, eq-eqb, ne_eqb}
-use Rattle.text.specs.Hex.{digit_of, hex_of, is_digit, value_of, digits_before, octets_of, spells, spelt, spelt_leaves}
+use Rattle.std.specs.Prelude.{Some, None}
+use Rattle.text.specs.Hex.{digit_of, hex_of, value_of, digits_before, octets_of, spells, spelt, spelt_leaves}
 
 -- Octets have twice as many digits.
 pub hex_length : (os : List ℕ) → length (hex_of os) ≡ 2 * length os
@@ -53,48 +54,31 @@ pub octets-done : (b x t : List ℕ) (at i : ℕ) → length t / 2 ≤ i → set
 octets-done b x t at i h e =
     let l : length (drop (2 * i) t) ≤ 1 = simp length-drop (omega arith) in rw (few (drop (2 * i) t) l) at e
 
--- The loop that looks at each character.
-pub digits-turn : (either : Bool) (t : List ℕ) (i x : ℕ) → i < length t → is_digit either (get_or t i 0) ≡ true
-    → i + digits_before either (drop i t) ≡ x → (i + 1) + digits_before either (drop (i + 1) t) ≡ x
-unfolding digits_before
-digits-turn either t i x h d e =
-    let q : i + suc (digits_before either (drop (suc i) t)) ≡ x = rw (drop-cons t i 0 h, d) at e in
-    rw (add-one i) (let r : suc i + digits_before either (drop (suc i) t) ≡ x = omega arith in r)
-
-pub digits-other : (either : Bool) (t : List ℕ) (i x : ℕ) → i < length t → is_digit either (get_or t i 0) ≡ false
-    → i + digits_before either (drop i t) ≡ x → i ≡ x
-unfolding digits_before
-digits-other either t i x h d e = let q : i + 0 ≡ x = rw (drop-cons t i 0 h, d) at e in omega arith
-
-pub digits-done : (either : Bool) (t : List ℕ) (i x : ℕ) → length t ≤ i → i + digits_before either (drop i t) ≡ x → i ≡ x
-unfolding digits_before
-digits-done either t i x h e = let q : i + 0 ≡ x = rw (drop_of_length-le t h) at e in omega arith
-
 -- The ways to be refused, and the one to be read.
 
 refused : (either : Bool) (t b : List ℕ) (at : ℕ) → spells either t b at ≡ false
-    → (record { good = false; count = 0 } ≡ spelt either t b at) × (b ≡ spelt_leaves either t b at)
+    → (None ≡ spelt either t b at) × (b ≡ spelt_leaves either t b at)
 unfolding spelt spelt_leaves
 refused either t b at e = (simp e, simp e)
 
 pub refused_odd : (either : Bool) (t b : List ℕ) (at : ℕ) → length t % 2 ≡ 1
-    → (record { good = false; count = 0 } ≡ spelt either t b at) × (b ≡ spelt_leaves either t b at)
+    → (None ≡ spelt either t b at) × (b ≡ spelt_leaves either t b at)
 unfolding spells
 refused_odd either t b at h = refused either t b at (simp (eq-eqb _ _ h))
 
 pub refused-digit : (either : Bool) (t b : List ℕ) (at : ℕ) → (length t % 2 ≡ 1 → ⊥) → digits_before either t < length t
-    → (record { good = false; count = 0 } ≡ spelt either t b at) × (b ≡ spelt_leaves either t b at)
+    → (None ≡ spelt either t b at) × (b ≡ spelt_leaves either t b at)
 unfolding spells
 refused-digit either t b at h d = refused either t b at (simp (ne_eqb _ _ h, lt-ltb _ _ d))
 
 pub refused-room : (either : Bool) (t b : List ℕ) (at : ℕ) → (length t % 2 ≡ 1 → ⊥) → length t ≤ digits_before either t
     → length b < at + length t / 2
-    → (record { good = false; count = 0 } ≡ spelt either t b at) × (b ≡ spelt_leaves either t b at)
+    → (None ≡ spelt either t b at) × (b ≡ spelt_leaves either t b at)
 unfolding spells
 refused-room either t b at h d k = refused either t b at (simp (ne_eqb _ _ h, le-ltb _ _ d, lt-leb _ _ k))
 
 pub read_whole : (either : Bool) (t b e : List ℕ) (at : ℕ) → (length t % 2 ≡ 1 → ⊥) → length t ≤ digits_before either t
     → at + length t / 2 ≤ length b → e ≡ sets b at (octets_of t)
-    → (record { good = true; count = length t / 2 } ≡ spelt either t b at) × (e ≡ spelt_leaves either t b at)
+    → (Some (length t / 2) ≡ spelt either t b at) × (e ≡ spelt_leaves either t b at)
 unfolding spells spelt spelt_leaves
 read_whole either t b e at h d k s = (simp (ne_eqb _ _ h, le-ltb _ _ d, le-leb _ _ k), simp (ne_eqb _ _ h, le-ltb _ _ d, le-leb _ _ k) s)

@@ -1,23 +1,19 @@
 -- Numbers in decimal: no sign, no zero in front.
-use Rattle.std.specs.Prelude.{ℕ, zero, suc, ◌+◌, ◌*◌, ◌-◌, ◌/◌, ◌%◌, true, false, cond, ◌&&◌, List, [], ◌∷◌, ◌++◌, length, get_or, leb, ltb, eqb}
-use Rattle.text.specs.declared.decimal.Number.{Number}
-
-abbrev pub no_number : Number
-no_number = record { good = false; value = 0 }
+use Rattle.std.specs.Prelude.{ℕ, zero, suc, ◌+◌, ◌*◌, ◌-◌, ◌/◌, ◌%◌, cond, ◌&&◌, List, [], ◌∷◌, ◌++◌, length, get_or, leb, ltb, eqb, Option, Some, None}
 
 -- The number that digits spell behind those that came to `sofar`; none where a character is no digit or the number passes `most`.
-unfoldable pub digits_from : ℕ → ℕ → List ℕ → Number
-digits_from most sofar [] = record { good = true; value = sofar }
+unfoldable pub digits_from : ℕ → ℕ → List ℕ → Option ℕ
+digits_from most sofar [] = Some sofar
 digits_from most sofar (c ∷ cs) =
     cond (leb 48 c && leb c 57)
-    (cond (leb (10 * sofar + (c - 48)) most) (digits_from most (10 * sofar + (c - 48)) cs) no_number)
-    no_number
+    (cond (leb (10 * sofar + (c - 48)) most) (digits_from most (10 * sofar + (c - 48)) cs) None)
+    None
 
 -- The number of at most `most` that a text is; a zero in front stands alone.
-unfoldable pub number_of : List ℕ → ℕ → Number
+unfoldable pub number_of : List ℕ → ℕ → Option ℕ
 number_of text most =
-    cond (eqb (length text) 0) no_number
-    (cond (eqb (get_or text 0 0) 48) (cond (eqb (length text) 1) (record { good = true; value = 0 }) no_number)
+    cond (eqb (length text) 0) None
+    (cond (eqb (get_or text 0 0) 48) (cond (eqb (length text) 1) (Some 0) None)
     (digits_from most 0 text))
 
 -- The last digits of a number, at most `k`.

@@ -1,7 +1,6 @@
 -- Octets in hexadecimal: two digits an octet, the upper half first.
-use Rattle.std.specs.Prelude.{ℕ, suc, ◌+◌, ◌*◌, ◌-◌, ◌/◌, ◌%◌, Bool, true, false, cond, ◌&&◌, ◌||◌, List, [], ◌∷◌, length, leb, ltb, eqb}
+use Rattle.std.specs.Prelude.{ℕ, suc, ◌+◌, ◌*◌, ◌-◌, ◌/◌, ◌%◌, Bool, false, cond, ◌&&◌, ◌||◌, List, [], ◌∷◌, length, leb, ltb, eqb, Option, Some, None}
 use Rattle.std.proofs.lemmas.List.Edits.{sets}
-use Rattle.text.specs.declared.hex.Spelt.{Spelt}
 
 -- The digit of a half octet, in lower case.
 unfoldable pub digit_of : ℕ → ℕ
@@ -44,9 +43,9 @@ spells either text buffer at =
     (cond (ltb (digits_before either text) (length text)) false (leb (at + length text / 2) (length buffer)))
 
 -- What reading such a text comes to, and what it leaves in the buffer: a text that is refused leaves it as it was.
-unfoldable pub spelt : Bool → List ℕ → List ℕ → ℕ → Spelt
+unfoldable pub spelt : Bool → List ℕ → List ℕ → ℕ → Option ℕ
 spelt either text buffer at =
-    cond (spells either text buffer at) (record { good = true; count = length text / 2 }) (record { good = false; count = 0 })
+    cond (spells either text buffer at) (Some (length text / 2)) None
 
 unfoldable pub spelt_leaves : Bool → List ℕ → List ℕ → ℕ → List ℕ
 spelt_leaves either text buffer at = cond (spells either text buffer at) (sets buffer at (octets_of text)) buffer

@@ -1,84 +1,43 @@
 // Numbers in decimal.
-ghost use Rattle.std.specs.Prelude.{◌≡◌, ◌+◌, ◌≤◌, length};
+ghost use Rattle.std.specs.Prelude.{◌≡◌, ◌+◌, ◌≤◌, length, IfSome};
 ghost use Rattle.std.proofs.lemmas.List.Edits.{sets};
 ghost use Rattle.text.specs.Decimal.{number_of, digits_from, digits_of};
 
-// What a text spells: whether it is a number that is asked for, and the number.
-#[derive(Clone, Copy)]
-pub struct Number {
-    pub good: bool,
-    pub value: u64,
-}
-
-fn wide(character: u8) -> u64
-    ensures { result ≡ character }
-{
-    character as u64
-}
-
-// The number that a text is, without sign and without a zero in front, at most `most`.
-pub fn number_of(text: &[u8], most: u64) -> Number
+// The number that a text is, without sign and without a zero in front, at most `most`; none where it is no such number.
+pub fn number_of(text: &[u8], most: u64) -> Option<u64>
     ensures value { result ≡ number_of text.now most }
-    ensures value_le_most { result.value ≤ most }
+    ensures value_le_most { IfSome result (λ n. n ≤ most) }
 {
     if text.len() == 0 {
-        return Number {
-            good: false,
-            value: 0,
-        };
+        return None;
     }
     if text[0] == 48 {
         if text.len() == 1 {
-            return Number {
-                good: true,
-                value: 0,
-            };
+            return Some(0);
         }
-        return Number {
-            good: false,
-            value: 0,
-        };
+        return None;
     }
     digits_from(text, most)
 }
 
 // The number that digits spell.
-fn digits_from(text: &[u8], most: u64) -> Number
+fn digits_from(text: &[u8], most: u64) -> Option<u64>
     ensures value { result ≡ digits_from most 0 text.now }
-    ensures value_le_most { result.value ≤ most }
+    ensures value_le_most { IfSome result (λ n. n ≤ most) }
 {
-    let mut value = 0;
-    let mut step = 0;
-    while step < text.len() {
-        let digit = wide(text[step]);
-        if digit < 48 {
-            return Number {
-                good: false,
-                value: 0,
-            };
+    let mut value: u64 = 0;
+    for character in text {
+        let digit = u64::from(*character);
+        if digit < 48 || 57 < digit {
+            return None;
         }
-        if 57 < digit {
-            return Number {
-                good: false,
-                value: 0,
-            };
+        let next = value.checked_mul(10)?.checked_add(digit - 48)?;
+        if most < next {
+            return None;
         }
-        if most < digit - 48 {
-            return Number {
-                good: false,
-                value: 0,
-            };
-        }
-        if (most - (digit - 48)) / 10 < value {
-            return Number {
-                good: false,
-                value: 0,
-            };
-        }
-        value = 10 * value + (digit - 48);
-        step += 1;
+        value = next;
     }
-    Number { good: true, value }
+    Some(value)
 }
 
 // Puts the digits of a number, at most `places`, over those of `buffer` from `at` on, and answers the place behind them.

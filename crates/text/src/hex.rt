@@ -12,13 +12,6 @@ ghost use Rattle.text.specs.Hex.{
   spelt_leaves,
 };
 
-// What reading a text came to: whether it is good, and how many octets it spells.
-#[derive(Clone, Copy)]
-pub struct Spelt {
-    pub good: bool,
-    pub count: usize,
-}
-
 // Whether a character is a digit, in lower case or, where `either` says so, in upper case.
 fn is_digit(character: u8, either: bool) -> bool
     ensures { result ≡ is_digit either character }
@@ -59,14 +52,9 @@ pub fn digits_before(text: &[u8], either: bool) -> usize
     ensures value { result ≡ digits_before either text.now }
     ensures upper_bound { result ≤ length text.now }
 {
-    let mut step = 0;
-    while step < text.len() {
-        if !is_digit(text[step], either) {
-            return step;
-        }
-        step += 1;
-    }
-    step
+    text.iter()
+        .position(|character| !is_digit(*character, either))
+        .unwrap_or(text.len())
 }
 
 // Puts the octets that `count` pairs of digits spell over those of `buffer` from `at` on.
@@ -81,38 +69,25 @@ fn fill_octets(text: &[u8], buffer: &mut [u8], at: usize, count: usize)
     }
 }
 
-// Reads a text in lower case or, where `either` says so, in either case, and puts its octets over those of `buffer` from `at` on.
-pub fn read_hex(text: &[u8], either: bool, buffer: &mut [u8], at: usize) -> Spelt
+// Reads a text in lower case or, where `either` says so, in either case, and puts its octets over those of `buffer` from `at` on. Answers how many octets it
+// spells; none where it is no hexadecimal or there is no room.
+pub fn read_hex(text: &[u8], either: bool, buffer: &mut [u8], at: usize) -> Option<usize>
     ensures value { result ≡ spelt either text.now buffer.old at }
     ensures buffer_after { buffer.new ≡ spelt_leaves either text.now buffer.old at }
 {
     let count = text.len() / 2;
     if text.len() % 2 == 1 {
-        return Spelt {
-            good: false,
-            count: 0,
-        };
+        return None;
     }
     if digits_before(text, either) < text.len() {
-        return Spelt {
-            good: false,
-            count: 0,
-        };
+        return None;
     }
-    if buffer.len() < at {
-        return Spelt {
-            good: false,
-            count: 0,
-        };
-    }
-    if buffer.len() - at < count {
-        return Spelt {
-            good: false,
-            count: 0,
-        };
+    let room = buffer.len().checked_sub(at)?;
+    if room < count {
+        return None;
     }
     fill_octets(text, buffer, at, count);
-    Spelt { good: true, count }
+    Some(count)
 }
 
 // The digit of a half octet.

@@ -7,7 +7,7 @@ use crate::place::{LEAD, MARGIN, Place, RIGHT, View, in_new_band, next_place, on
 use crate::segment::{draw_segment, draw_tail};
 use crate::window::{Band, tail_time};
 use drawing::{begin_text, end_text};
-use log_entry::{Found, read_entry};
+use log_entry::read_entry;
 use log_words::entry::write_clock;
 use saying::{write_long, write_text};
 
@@ -27,8 +27,7 @@ pub(crate) struct Extent {
 // Where a band ends that starts at a place: behind the last entry that fits into it, and one fits always.
 fn band_end(log: &[u8], view: View, total: usize, first: Place) -> Place {
     let mut place = first;
-    let mut turns: u64 = 65536;
-    while turns > 0 {
+    for _ in 0..65536 {
         if total <= place.number {
             return place;
         }
@@ -37,7 +36,6 @@ fn band_end(log: &[u8], view: View, total: usize, first: Place) -> Place {
             return place;
         }
         place = next;
-        turns -= 1;
     }
     place
 }
@@ -62,8 +60,7 @@ pub(crate) fn measure(
 ) -> Extent {
     let mut place = first;
     let mut y = top;
-    let mut turns: u64 = 65536;
-    while turns > 0 {
+    for _ in 0..65536 {
         let end = band_end(log, view, total, place);
         y = band_bottom(view, y, end);
         if is_last(y, total, end) {
@@ -75,7 +72,6 @@ pub(crate) fn measure(
             };
         }
         place = in_new_band(end);
-        turns -= 1;
     }
     Extent {
         total,
@@ -99,8 +95,7 @@ pub(crate) fn draw_bands(
 ) {
     let mut place = first;
     let mut y = top;
-    let mut turns: u64 = 65536;
-    while turns > 0 {
+    for _ in 0..65536 {
         let end = band_end(log, view, extent.total, place);
         draw_band(descriptor, log, view, y, place, end, extent);
         y = band_bottom(view, y, end);
@@ -108,7 +103,6 @@ pub(crate) fn draw_bands(
             return;
         }
         place = in_new_band(end);
-        turns -= 1;
     }
 }
 
@@ -172,7 +166,7 @@ fn write_range(descriptor: i32, before: usize, last: usize) {
     if last <= before {
         return;
     }
-    let first = std::num::wrapping_add_usize(before, 1);
+    let first = before.wrapping_add(1);
     if first == last {
         write_text(descriptor, b", entry ");
         write_long(descriptor, last as u64);
@@ -210,13 +204,11 @@ fn draw_entries(
     kind: u8,
 ) {
     let mut place = first;
-    let mut turns: u64 = 65536;
-    while turns > 0 {
+    for _ in 0..65536 {
         if band.last <= place.number {
             return;
         }
         place = draw_entry(descriptor, log, view, y, place, band, kind);
-        turns -= 1;
     }
 }
 
@@ -230,7 +222,7 @@ fn draw_entry(
     kind: u8,
 ) -> Place {
     let table = view.table;
-    let Found::Read(entry, at) = read_entry(table, log, place.at) else {
+    let Ok((entry, at)) = read_entry(table, log, place.at) else {
         return next_place(log, view, place);
     };
     let next = onward(log, view, place, entry, at);

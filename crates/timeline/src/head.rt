@@ -49,14 +49,14 @@ pub(crate) fn draw_head(
     draw_summary(descriptor, table, place.time, extent);
     draw_timers(descriptor, table, found);
     draw_key(descriptor, table);
-    if found.broken {
-        draw_fault(descriptor, table, log, place, found.fault);
+    if let Some(fault) = found.fault {
+        draw_fault(descriptor, table, log, place, fault);
     }
 }
 
 // Why the entry behind a place can't be read, in the words of `heidezirkel show`.
 fn draw_fault(descriptor: i32, table: Table, log: &[u8], place: Place, fault: usize) {
-    let number = std::num::wrapping_add_usize(place.number, 1);
+    let number = place.number.wrapping_add(1);
     begin_text(descriptor, b"t", MARGIN, 148 + moved(table));
     write_text(descriptor, b"The log breaks off: ");
     write_fault(descriptor, table, log, number, place.at, fault);
@@ -179,11 +179,11 @@ fn write_timer(descriptor: i32, seen: bool, never: &[u8], bounds: Bounds) {
         );
         return;
     }
-    if 0 < bounds.conflict {
+    if let Some(conflict) = bounds.conflict {
         write_form(
             descriptor,
             b"no one timer fits these times. At entry # it has run # ms, and what came before",
-            &[bounds.conflict as u64, bounds.elapsed],
+            &[conflict.entry as u64, conflict.elapsed],
         );
         write_between(
             descriptor,

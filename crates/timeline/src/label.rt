@@ -29,13 +29,12 @@ fn draw_label(
     time: u64,
     band: Band,
 ) {
-    let stretch = stretch_of(log, view, place, state, time, band);
+    let Some(stretch) = stretch_of(log, view, place, state, time, band) else {
+        return;
+    };
     let window = window_of(view, state);
     let width = width_of(window);
     let top = lane(view, y, state);
-    if !stretch.drawn {
-        return;
-    }
     let behind = sum(stretch.end, 3);
     if is_free(log, view, place, state, band, behind, sum(behind, width)) {
         draw_bounds(descriptor, top, behind, width, window);
@@ -57,8 +56,7 @@ fn is_free(
     to: u64,
 ) -> bool {
     let mut place = first;
-    let mut turns: u64 = 65536;
-    while turns > 0 {
+    for _ in 0..65536 {
         if is_past(place, band, to) {
             return to <= RIGHT;
         }
@@ -67,7 +65,6 @@ fn is_free(
             return false;
         }
         place = next;
-        turns -= 1;
     }
     false
 }

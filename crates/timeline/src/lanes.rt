@@ -43,9 +43,9 @@ fn group_row(state: u8) -> u8 {
     match state {
         0..=2 => state,
         3 => 12,
-        4..=6 => std::num::wrapping_add_u8(state, 5),
+        4..=6 => state.wrapping_add(5),
         7 => 12,
-        8..=255 => std::num::wrapping_sub_u8(state, 5),
+        8..=255 => state.wrapping_sub(5),
     }
 }
 

@@ -16,63 +16,71 @@ mod window;
 
 use band::{Extent, draw_bands, measure};
 use drawing::write_form;
+use filing::ending::Failure;
 use filing::{close_file, create_file};
 use head::{draw_head, top};
 use log_words::fault::{write_fault, write_version_fault};
-use place::first_place;
+use place::{Place, first_place};
 use saying::shown::tell_name;
 use saying::{STDERR_FILENO, STDOUT_FILENO, complain, tell, write_count};
-use septets::{Number, read_number};
+use septets::read_number;
 use std::os::fd::AsRawFd;
 use survey::{Survey, survey_log, view_of};
-use text::words::{find, part, same};
-use version::{Known, Table};
+use version::Table;
 
 // The most bytes that a log has.
 const MOST: usize = version::LONGEST;
 
 // Draws a log, the file `name`, into the new file `path`, and answers the verdict.
-pub fn tell_timeline(rt: &HostRuntime, log: &[u8], name: &[u8], path: &[u8]) -> u8 {
+pub fn tell_timeline(
+    rt: &HostRuntime,
+    log: &[u8],
+    name: &[u8],
+    path: &[u8],
+) -> Result<(), Failure> {
     if MOST < log.len() {
         complain(b"log over 65,536 bytes (answer 10): nothing of it is drawn\n");
-        return 1;
+        return Err(Failure::Refused);
     }
-    let Number::Value(number, at) = read_number(log, 0) else {
+    let Some((number, at)) = read_number(log, 0) else {
         return refuse_version(log);
     };
-    let Known::Of(table) = version::table_of(number) else {
+    let Some(table) = version::table_of(number) else {
         return refuse_version(log);
     };
     draw_log(rt, table, log, at, name, path)
 }
 
 // What has no version is no log, and no picture is made of it.
-fn refuse_version(log: &[u8]) -> u8 {
+fn refuse_version(log: &[u8]) -> Result<(), Failure> {
     write_version_fault(STDERR_FILENO, log);
-    1
+    Err(Failure::Refused)
 }
 
-fn draw_log(rt: &HostRuntime, table: Table, log: &[u8], at: usize, name: &[u8], path: &[u8]) -> u8 {
+fn draw_log(
+    rt: &HostRuntime,
+    table: Table,
+    log: &[u8],
+    at: usize,
+    name: &[u8],
+    path: &[u8],
+) -> Result<(), Failure> {
     let found = survey_log(table, log, at);
-    let Some(file) = create_file(rt, b"timeline", path) else {
-        return 2;
-    };
+    let file = create_file(rt, b"timeline", path)?;
     let descriptor = file.as_raw_fd();
     let drawn = draw_picture(descriptor, table, log, at, name, found);
     // What can't be written any more shows at the last write.
     let whole = io::write_all(descriptor, b"</svg>\n");
-    if !close_file(rt, b"timeline", path, file, whole) {
-        return 2;
-    }
+    close_file(rt, b"timeline", path, file, whole)?;
     tell_drawn(path, drawn);
     if is_misnamed(file_name(path)) {
         complain_of_name(path);
     }
-    if found.broken {
-        complain_of_fault(table, log, found);
-        return 1;
+    if let Some(fault) = found.fault {
+        complain_of_fault(table, log, found.place, fault);
+        return Err(Failure::Refused);
     }
-    0
+    Ok(())
 }
 
 // All of the picture but its end.
@@ -86,8 +94,9 @@ fn draw_picture(
 ) -> Extent {
     let place = found.place;
     let view = view_of(table, found);
-    let y = top(table, found.broken);
-    let reach = measure(log, view, y, first_place(at), place.number, found.broken);
+    let broken = found.fault.is_some();
+    let y = top(table, broken);
+    let reach = measure(log, view, y, first_place(at), place.number, broken);
     draw_head(descriptor, table, log, file_name(name), found, reach);
     draw_bands(descriptor, log, view, y, first_place(at), reach);
     reach
@@ -95,21 +104,14 @@ fn draw_picture(
 
 // The part of a path behind its last slash.
 fn file_name(path: &[u8]) -> &[u8] {
-    let mut at = path.len();
-    while at > 0 {
-        if path[at - 1] == b'/' {
-            return &path[at..];
-        }
-        at -= 1;
-    }
-    path
+    let mut parts = path.rsplit(|byte| *byte == b'/');
+    parts.next().unwrap_or(path)
 }
 
 // Whether a file's name says that it is something else than SVG.
 fn is_misnamed(name: &[u8]) -> bool {
-    let end = part(name, std::num::wrapping_sub_usize(name.len(), 4), 4);
-    let right = same(end, b".svg") | same(end, b".SVG");
-    (find(name, b'.') < name.len()) & !right
+    let right = name.ends_with(b".svg") || name.ends_with(b".SVG");
+    name.contains(&b'.') && !right
 }
 
 fn complain_of_name(path: &[u8]) {
@@ -134,7 +136,7 @@ fn tell_drawn(path: &[u8], drawn: Extent) {
 
 fn tell_rest(drawn: Extent) {
     if drawn.drawn < drawn.total {
-        let rest = std::num::wrapping_sub_usize(drawn.total, drawn.drawn);
+        let rest = drawn.total.wrapping_sub(drawn.drawn);
         write_form(
             STDOUT_FILENO,
             b", and # not: the picture would grow too long\n",
@@ -145,8 +147,7 @@ fn tell_rest(drawn: Extent) {
     tell(b"\n");
 }
 
-fn complain_of_fault(table: Table, log: &[u8], found: Survey) {
-    let place = found.place;
-    let number = std::num::wrapping_add_usize(place.number, 1);
-    write_fault(STDERR_FILENO, table, log, number, place.at, found.fault);
+fn complain_of_fault(table: Table, log: &[u8], place: Place, fault: usize) {
+    let number = place.number.wrapping_add(1);
+    write_fault(STDERR_FILENO, table, log, number, place.at, fault);
 }

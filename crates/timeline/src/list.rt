@@ -12,7 +12,7 @@ use log_entry::{Claim, Entry, Run};
 use log_words::entry::{
     is_return, write_actions, write_answer_name, write_clock, write_event_name, write_state_name,
 };
-use message::{Fault, Reading};
+use message::{Fault, Unread};
 use saying::describe::write_kind;
 use saying::write_text;
 use text::words::part;
@@ -151,7 +151,7 @@ fn write_starts(descriptor: i32, view: View, before: Place, after: Place) {
 // All but the sixth where that has a line of its own.
 fn first_actions(actions: u8) -> u8 {
     if has_two_actions(actions) {
-        return std::num::wrapping_sub_u8(actions, action::TELL_MM_EXISTS);
+        return actions.wrapping_sub(action::TELL_MM_EXISTS);
     }
     actions
 }
@@ -236,13 +236,9 @@ fn write_message(descriptor: i32, protocol: Protocol, log: &[u8], run: Run) {
     let count = run.count;
     let octets = part(log, start, count);
     match message::read(protocol, octets) {
-        Reading::TooLong => write_text(descriptor, b"too long"),
-        Reading::Unreadable(fault) => write_faulty(descriptor, octets, fault),
-        Reading::Is {
-            flag: _,
-            value: _,
-            message: _,
-        } => write_kind(descriptor, octet_at(octets, 1) % 64),
+        Err(Unread::TooLong) => write_text(descriptor, b"too long"),
+        Err(Unread::Unreadable(fault)) => write_faulty(descriptor, octets, fault),
+        Ok(_) => write_kind(descriptor, octet_at(octets, 1) % 64),
     }
 }
 

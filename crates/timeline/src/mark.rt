@@ -78,7 +78,7 @@ fn draw_signs(descriptor: i32, y: u64, x: u64, event: u8, sent: bool) {
     if sent {
         draw_sent(descriptor, x, y);
     }
-    if 0 < timer::expired_timer(event as u32) {
+    if timer::expired_timer(event as u32).is_some() {
         draw_expiry(descriptor, less(x, 4), y);
     }
 }

@@ -2,7 +2,7 @@
 use crate::reason::{Transaction, transaction_behind};
 use codes::{action, answer, event};
 use fields::reply_messages::messages_of;
-use log_entry::{Claim, Entry, Found, read_entry};
+use log_entry::{Claim, Entry, read_entry};
 use log_words::entry::asked_from;
 use log_words::has_invitation_timer;
 use timer::{Timers, Window};
@@ -86,29 +86,12 @@ pub(crate) struct Place {
 // ---- sums that can't overflow, for numbers that only place things
 
 pub(crate) fn sum(one: u64, other: u64) -> u64 {
-    std::num::wrapping_add_u64(one, other)
+    one.wrapping_add(other)
 }
 
 // Nought where the second is the greater.
 pub(crate) fn less(one: u64, other: u64) -> u64 {
-    if one < other {
-        return 0;
-    }
-    one - other
-}
-
-pub(crate) fn greater(one: u64, other: u64) -> u64 {
-    if one < other {
-        return other;
-    }
-    one
-}
-
-pub(crate) fn smaller(one: u64, other: u64) -> u64 {
-    if one < other {
-        return one;
-    }
-    other
+    one.saturating_sub(other)
 }
 
 // Milliseconds, at most 1,000,000 of them, as thousandths of a unit.
@@ -162,7 +145,7 @@ pub(crate) fn shown(place: Place, delta: u64) -> u64 {
     if !is_cut(delta) {
         return delta;
     }
-    greater(START, joining_left(place))
+    START.max(joining_left(place))
 }
 
 // How long a joining timer may last from here on.
@@ -252,7 +235,7 @@ pub(crate) fn onward(log: &[u8], view: View, place: Place, entry: Entry, at: usi
     let invitation = watched(place.invitation, invites, claim.state == INVITED, time);
     Place {
         at,
-        number: std::num::wrapping_add_usize(place.number, 1),
+        number: place.number.wrapping_add(1),
         time,
         state: claim.state,
         asked: asked_from(place.state, place.asked, claim.state),
@@ -260,7 +243,7 @@ pub(crate) fn onward(log: &[u8], view: View, place: Place, entry: Entry, at: usi
         joining,
         invitation,
         x,
-        label: greater(x / 1000, sum(place.label, APART)),
+        label: (x / 1000).max(sum(place.label, APART)),
         fresh: is_cut(delta),
         lines: sum(place.lines, lines_of(table, log, claim)),
     }
@@ -269,9 +252,9 @@ pub(crate) fn onward(log: &[u8], view: View, place: Place, entry: Entry, at: usi
 // The place behind the next entry. Where there is none to be read, the walk stays, and counts on so that it ends.
 pub(crate) fn next_place(log: &[u8], view: View, place: Place) -> Place {
     let table = view.table;
-    let Found::Read(entry, at) = read_entry(table, log, place.at) else {
+    let Ok((entry, at)) = read_entry(table, log, place.at) else {
         let mut next = place;
-        next.number = std::num::wrapping_add_usize(place.number, 1);
+        next.number = place.number.wrapping_add(1);
         return next;
     };
     onward(log, view, place, entry, at)

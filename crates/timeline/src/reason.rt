@@ -5,7 +5,7 @@ use codes::{answer, event};
 use fields::octet_at;
 use log_entry::{Data, Entry};
 use log_words::entry::write_reason;
-use message::{Identity, Message, Reading};
+use message::Message;
 use saying::write_text;
 use text::words::part;
 
@@ -92,21 +92,10 @@ fn fits(transaction: Transaction, first: u8) -> bool {
 
 // Whether a message asks one radio for its status.
 fn asks_one(protocol: Protocol, octets: &[u8]) -> bool {
-    let Reading::Is {
-        flag: _,
-        value: _,
-        message,
-    } = message::read(protocol, octets)
-    else {
+    let Ok(read) = message::read(protocol, octets) else {
         return false;
     };
-    let Message::GetStatus { identity } = message else {
-        return false;
-    };
-    let Identity::Present(_) = identity else {
-        return false;
-    };
-    true
+    matches!(read.message, Message::GetStatus { identity: Some(_) })
 }
 
 // The reason that the octets of a message give, in a state other than U0.

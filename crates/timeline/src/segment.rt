@@ -1,6 +1,6 @@
 // The time from one entry to the next: the bar of the state, the marks of the time axis, and the strip that stands for a long time without an entry.
 use crate::lanes::{axis, lane};
-use crate::place::{Place, STRIP, View, along, greater, is_cut, less, shown, sum};
+use crate::place::{Place, STRIP, View, along, is_cut, less, shown, sum};
 use crate::window::{Band, draw_end, draw_windows, tail_time};
 use drawing::{
     attribute, begin_rectangle, begin_text, begin_upright_text, end_text, finish, line, rectangle,
@@ -24,7 +24,7 @@ fn shade(descriptor: i32, state: u8, x: u64, y: u64, width: u64) {
 // A state that lasts no time still shows.
 fn draw_bar(descriptor: i32, view: View, y: u64, before: Place, after: Place) {
     let x = before.x / 1000;
-    let width = greater(2, less(after.x / 1000, x));
+    let width = less(after.x / 1000, x).max(2);
     let top = sum(lane(view, y, before.state), 3);
     shade(descriptor, before.state, x, top, width);
     write_form(
@@ -60,14 +60,12 @@ fn round_up(step: u64, from: u64) -> u64 {
 fn draw_ticks(descriptor: i32, view: View, y: u64, place: Place, time: u64) {
     let end = sum(place.time, time);
     let mut tick = first_tick(view.step, place);
-    let mut turns: u64 = 64;
-    while turns > 0 {
+    for _ in 0..64 {
         if end < tick {
             return;
         }
         draw_tick(descriptor, view, y, place, tick);
         tick = sum(tick, view.step);
-        turns -= 1;
     }
 }
 

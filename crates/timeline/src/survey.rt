@@ -1,21 +1,26 @@
 // The first pass over a log: how many entries can be read, which joining and which invitation timers their times leave, and how wide the picture would be.
 use crate::lanes::{is_strange, lanes_of};
 use crate::place::{
-    INVITED, JOINING, LEAD, LEFT, Place, RIGHT, STRIP, View, Watch, along, first_place, greater,
-    invitation_left, is_cut, joining_left, onward, shown, smaller, sum,
+    INVITED, JOINING, LEAD, LEFT, Place, RIGHT, STRIP, View, Watch, along, first_place,
+    invitation_left, is_cut, joining_left, onward, shown, sum,
 };
 use codes::event;
-use log_entry::{Entry, Found, read_entry};
+use log_entry::{Entry, read_entry};
 use timer::{Timers, Window};
 use version::Table;
 
-// What the times leave of a timer. `conflict` is the first entry, if any, at which nothing is left: the timer has run for `elapsed` there, and the window is
-// that of the entries before.
+// The first entry at which the times leave nothing of a timer, which has run for `elapsed` there.
+#[derive(Clone, Copy)]
+pub(crate) struct Conflict {
+    pub entry: usize,
+    pub elapsed: u64,
+}
+
+// What the times leave of a timer. Where there is a conflict, the window is that of the entries before.
 #[derive(Clone, Copy)]
 pub(crate) struct Bounds {
     pub window: Window,
-    pub conflict: usize,
-    pub elapsed: u64,
+    pub conflict: Option<Conflict>,
 }
 
 impl Bounds {
@@ -24,8 +29,7 @@ impl Bounds {
             least: Timers::JOINING_LEAST as u64,
             greatest: Timers::JOINING_GREATEST as u64,
         },
-        conflict: 0,
-        elapsed: 0,
+        conflict: None,
     };
 
     const INVITATION: Bounds = Bounds {
@@ -33,8 +37,7 @@ impl Bounds {
             least: Timers::INVITATION_LEAST as u64,
             greatest: Timers::INVITATION_GREATEST as u64,
         },
-        conflict: 0,
-        elapsed: 0,
+        conflict: None,
     };
 }
 
@@ -49,9 +52,8 @@ pub(crate) struct Survey {
     pub strips: u64,
     // Whether an entry claims a state that the table does not have.
     pub strange: bool,
-    // Whether the entry behind it can't be read, and the place of the field at which reading stopped.
-    pub broken: bool,
-    pub fault: usize,
+    // The place of the field at which reading stopped in the entry behind it, if that can't be read.
+    pub fault: Option<usize>,
 }
 
 // An entry takes a byte at least, so no log has more entries than 65,536.
@@ -63,35 +65,31 @@ pub(crate) fn survey_log(table: Table, log: &[u8], at: usize) -> Survey {
         drawn: 0,
         strips: 0,
         strange: false,
-        broken: false,
-        fault: 0,
+        fault: None,
     };
-    let mut turns: u64 = 65536;
-    while turns > 0 {
+    for _ in 0..65536 {
         if is_over(log, found) {
             return found;
         }
         found = survey_next(table, log, found);
-        turns -= 1;
     }
     found
 }
 
 fn is_over(log: &[u8], found: Survey) -> bool {
     let place = found.place;
-    found.broken | (log.len() <= place.at)
+    found.fault.is_some() || log.len() <= place.at
 }
 
 fn survey_next(table: Table, log: &[u8], found: Survey) -> Survey {
     let place = found.place;
     match read_entry(table, log, place.at) {
-        Found::Unreadable(fault) => {
+        Err(fault) => {
             let mut broken = found;
-            broken.broken = true;
-            broken.fault = fault;
+            broken.fault = Some(fault);
             broken
         }
-        Found::Read(entry, at) => survey_entry(table, log, found, entry, at),
+        Ok((entry, at)) => survey_entry(table, log, found, entry, at),
     }
 }
 
@@ -119,8 +117,7 @@ fn survey_entry(table: Table, log: &[u8], found: Survey, entry: Entry, at: usize
         drawn: sum(found.drawn, shown(place, delta)),
         strips: sum(found.strips, strips_of(delta)),
         strange: found.strange | is_strange(table, next.state),
-        broken: false,
-        fault: 0,
+        fault: None,
     }
 }
 
@@ -158,30 +155,31 @@ fn narrowed(bounds: Bounds, watch: Watch, expired: bool, after: Place) -> Bounds
     if !watch.running {
         return bounds;
     }
-    if 0 < bounds.conflict {
+    if bounds.conflict.is_some() {
         return bounds;
     }
     let window = bounds.window;
-    let elapsed = std::num::wrapping_sub_u64(after.time, watch.start);
-    let least = greater(window.least, elapsed);
+    let elapsed = after.time.wrapping_sub(watch.start);
+    let least = window.least.max(elapsed);
     let greatest = greatest_of(expired, elapsed, window.greatest);
     if greatest < least {
         return Bounds {
             window,
-            conflict: after.number,
-            elapsed,
+            conflict: Some(Conflict {
+                entry: after.number,
+                elapsed,
+            }),
         };
     }
     Bounds {
         window: Window { least, greatest },
-        conflict: 0,
-        elapsed: 0,
+        conflict: None,
     }
 }
 
 fn greatest_of(expired: bool, elapsed: u64, before: u64) -> u64 {
     if expired {
-        return smaller(elapsed, before);
+        return elapsed.min(before);
     }
     before
 }
@@ -190,10 +188,9 @@ fn greatest_of(expired: bool, elapsed: u64, before: u64) -> u64 {
 
 // The time that is drawn behind the last entry: a second, or to the end of a timer that may still run.
 pub(crate) fn tail(place: Place, invitation: Window) -> u64 {
-    greater(
-        1000,
-        greater(joining_left(place), invitation_left(place, invitation)),
-    )
+    joining_left(place)
+        .max(invitation_left(place, invitation))
+        .max(1000)
 }
 
 // Units that the strips take, and twice the lead.

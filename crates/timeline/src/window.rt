@@ -2,8 +2,7 @@
 // where a band begins or a strip ends.
 use crate::lanes::lane;
 use crate::place::{
-    INVITED, JOINING, Place, RIGHT, View, Watch, along, greater, less, next_place, shown, smaller,
-    sum,
+    INVITED, JOINING, Place, RIGHT, View, Watch, along, less, next_place, shown, sum,
 };
 use crate::survey::tail;
 use drawing::write_form;
@@ -16,24 +15,13 @@ pub(crate) struct Band {
     pub tail: bool,
 }
 
-// A window as far as it is drawn in one, if it is: from when to when, and from where to where along the axis.
+// A window as far as it is drawn in one: from when to when, and from where to where along the axis.
 #[derive(Clone, Copy)]
 pub(crate) struct Stretch {
-    pub drawn: bool,
     pub first: u64,
     pub last: u64,
     pub x: u64,
     pub end: u64,
-}
-
-impl Stretch {
-    const NONE: Stretch = Stretch {
-        drawn: false,
-        first: 0,
-        last: 0,
-        x: 0,
-        end: 0,
-    };
 }
 
 // How far the time from one entry to the next is drawn without a break, and whether it goes on behind that.
@@ -78,7 +66,7 @@ fn across(scale: u64, width: u64) -> u64 {
 // How much is drawn behind the last entry.
 pub(crate) fn tail_time(view: View, place: Place) -> u64 {
     let room = across(view.scale, less(RIGHT * 1000, place.x));
-    smaller(tail(place, view.invitation), room)
+    tail(place, view.invitation).min(room)
 }
 
 // A strip breaks the time, and the timer of a state that is started anew ends what was drawn of it.
@@ -108,8 +96,7 @@ fn band_time(view: View, place: Place, band: Band) -> u64 {
 // Until when the time from a place on is drawn without a break, as far as `to`.
 fn drawn_until(log: &[u8], view: View, first: Place, state: u8, band: Band, to: u64) -> u64 {
     let mut place = first;
-    let mut turns: u64 = 65536;
-    while turns > 0 {
+    for _ in 0..65536 {
         if to <= place.time {
             return to;
         }
@@ -122,7 +109,6 @@ fn drawn_until(log: &[u8], view: View, first: Place, state: u8, band: Band, to: 
             return reach.time;
         }
         place = next;
-        turns -= 1;
     }
     place.time
 }
@@ -133,7 +119,7 @@ fn is_within(seen: bool, time: u64, from: u64, to: u64, end: u64) -> bool {
     seen & (time < to) & ((from < end) | instant)
 }
 
-// The window that begins in the time drawn behind a place, or goes on there after a break.
+// The window that begins in the time drawn behind a place, or goes on there after a break, if one does.
 pub(crate) fn stretch_of(
     log: &[u8],
     view: View,
@@ -141,7 +127,7 @@ pub(crate) fn stretch_of(
     state: u8,
     time: u64,
     band: Band,
-) -> Stretch {
+) -> Option<Stretch> {
     let watch = watch_of(place, state);
     let window = window_of(view, state);
     let from = sum(watch.start, window.least);
@@ -149,19 +135,18 @@ pub(crate) fn stretch_of(
     let end = sum(place.time, time);
     let drawn_before = (from < place.time) & !place.fresh;
     if drawn_before | !is_within(watch.seen, place.time, from, to, end) {
-        return Stretch::NONE;
+        return None;
     }
-    let first = greater(from, place.time);
-    let last = smaller(to, drawn_until(log, view, place, state, band, to));
-    stretched(view.scale, place, first, last)
+    let first = from.max(place.time);
+    let last = to.min(drawn_until(log, view, place, state, band, to));
+    Some(stretched(view.scale, place, first, last))
 }
 
 // From a time to a time, behind a place.
 fn stretched(scale: u64, place: Place, first: u64, last: u64) -> Stretch {
     let x = sum(place.x, along(scale, less(first, place.time))) / 1000;
-    let width = greater(3, along(scale, less(last, first)) / 1000);
+    let width = (along(scale, less(last, first)) / 1000).max(3);
     Stretch {
-        drawn: true,
         first,
         last,
         x,
@@ -180,17 +165,16 @@ pub(crate) fn draw_windows(
     time: u64,
     band: Band,
 ) {
-    let invited = stretch_of(log, view, place, INVITED, time, band);
-    draw_hatched(descriptor, lane(view, y, INVITED), invited);
-    let joining = stretch_of(log, view, place, JOINING, time, band);
-    draw_hatched(descriptor, lane(view, y, JOINING), joining);
+    if let Some(invited) = stretch_of(log, view, place, INVITED, time, band) {
+        draw_hatched(descriptor, lane(view, y, INVITED), invited);
+    }
+    if let Some(joining) = stretch_of(log, view, place, JOINING, time, band) {
+        draw_hatched(descriptor, lane(view, y, JOINING), joining);
+    }
 }
 
 // `top` is the top of its lane.
 fn draw_hatched(descriptor: i32, top: u64, stretch: Stretch) {
-    if !stretch.drawn {
-        return;
-    }
     write_form(
         descriptor,
         b"<rect class=\"window\" x=\"#\" y=\"#\" width=\"#\" height=\"14\" data-from=\"#\" data-to=\"#\"/>\n",

@@ -1,3 +1,4 @@
 pub mod Whole
 pub mod Few
 pub mod Coincide
+pub mod Numbers

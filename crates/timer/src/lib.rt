@@ -2,15 +2,14 @@
 #![tactic(auto)]
 
 ghost use Rattle.std.specs.Prelude.{◌≡◌};
-ghost use Rattle.timer.specs.Timers.{timer_number, running_among, expiry_of, length_of, with_timer};
+ghost use Rattle.timer.specs.Timers.{timer_number, running_timer, expired_timer, timer_row, with_timer};
 
 use codes::wide::event;
 
-// A timer, or none of them.
-#[derive(Clone, Copy)]
+// A timer, by its number.
+#[derive(Clone, Copy, PartialEq)]
 pub enum Timer {
-    NoTimer,
-    MmEst,
+    MmEst = 1,
     Term,
     ConnReq,
     NoChannel,
@@ -51,110 +50,90 @@ impl Timers {
     pub const INVITATION_GREATEST: u32 = 600000;
 }
 
-// The number of a timer, 0 for none.
+// The number of a timer.
 pub fn timer_number(timer: Timer) -> u8
     ensures { result ≡ timer_number timer }
 {
-    match timer {
-        Timer::NoTimer => 0,
-        Timer::MmEst => 1,
-        Timer::Term => 2,
-        Timer::ConnReq => 3,
-        Timer::NoChannel => 4,
-        Timer::Pres => 5,
-    }
+    timer as u8
 }
 
-// The number of the timer that runs, 0 for none. In a fit context at most one does.
-pub fn running_timer(timers: Timers) -> u8
-    ensures { result ≡ running_among timers }
+// The timer that runs, if any. In a fit context at most one does.
+#[tactic(auto, unfolding(crate::specs::Timers::running_timer))]
+pub fn running_timer(timers: Timers) -> Option<Timer>
+    ensures { result ≡ running_timer timers }
 {
     if timers.mmest {
-        return timer_number(Timer::MmEst);
+        return Some(Timer::MmEst);
     }
     if timers.term {
-        return timer_number(Timer::Term);
+        return Some(Timer::Term);
     }
     if timers.connreq {
-        return timer_number(Timer::ConnReq);
+        return Some(Timer::ConnReq);
     }
     if timers.nochannel {
-        return timer_number(Timer::NoChannel);
+        return Some(Timer::NoChannel);
     }
     if timers.pres {
-        return timer_number(Timer::Pres);
+        return Some(Timer::Pres);
     }
-    0
+    None
 }
 
-// The number of the timer whose expiry an event is, 0 where it is none.
-pub fn expired_timer(event: u32) -> u8
-    ensures { result ≡ expiry_of event }
+// The timer whose expiry an event is, if it is one.
+#[tactic(auto, unfolding(crate::specs::Timers::expired_timer))]
+pub fn expired_timer(event: u32) -> Option<Timer>
+    ensures { result ≡ expired_timer event }
 {
     match event {
-        event::MM_EST_EXPIRED => timer_number(Timer::MmEst),
-        event::TERM_EXPIRED => timer_number(Timer::Term),
-        event::CONN_REQ_EXPIRED => timer_number(Timer::ConnReq),
-        event::NO_CHANNEL_EXPIRED => timer_number(Timer::NoChannel),
-        event::PRES_EXPIRED => timer_number(Timer::Pres),
-        _ => 0,
+        event::MM_EST_EXPIRED => Some(Timer::MmEst),
+        event::TERM_EXPIRED => Some(Timer::Term),
+        event::CONN_REQ_EXPIRED => Some(Timer::ConnReq),
+        event::NO_CHANNEL_EXPIRED => Some(Timer::NoChannel),
+        event::PRES_EXPIRED => Some(Timer::Pres),
+        _ => None,
     }
 }
 
-// The length of the timer of a number, in milliseconds, where the joining timer is set to `joining` and the invitation timer to `invitation`; 0 for no timer.
-pub fn timer_length(joining: u32, invitation: u32, timer: u8) -> u32
-    ensures { result ≡ length_of joining invitation timer }
+// The length of a timer in milliseconds, where the joining timer is set to `joining` and the invitation timer to `invitation`.
+pub fn timer_length(joining: u32, invitation: u32, timer: Timer) -> u32
+    ensures { result ≡ (timer_row joining invitation timer).milliseconds }
 {
     match timer {
-        1 => Timers::MM_EST,
-        2 => Timers::TERM,
-        3 => joining,
-        4 => Timers::NO_CHANNEL,
-        5 => invitation,
-        _ => 0,
+        Timer::MmEst => Timers::MM_EST,
+        Timer::Term => Timers::TERM,
+        Timer::ConnReq => joining,
+        Timer::NoChannel => Timers::NO_CHANNEL,
+        Timer::Pres => invitation,
     }
 }
 
-// The timers with one of them running or not.
-pub fn with_timer(timer: Timer, runs: bool, timers: Timers) -> Timers
+// The timers with one of them, if any, running or not.
+#[tactic(auto, unfolding(crate::specs::Timers::with_timer))]
+pub fn with_timer(timer: Option<Timer>, runs: bool, timers: Timers) -> Timers
     ensures { result ≡ with_timer timer runs timers }
 {
     match timer {
-        Timer::NoTimer => timers,
-        Timer::MmEst => Timers {
+        None => timers,
+        Some(Timer::MmEst) => Timers {
             mmest: runs,
-            term: timers.term,
-            connreq: timers.connreq,
-            nochannel: timers.nochannel,
-            pres: timers.pres,
+            ..timers
         },
-        Timer::Term => Timers {
-            mmest: timers.mmest,
+        Some(Timer::Term) => Timers {
             term: runs,
-            connreq: timers.connreq,
-            nochannel: timers.nochannel,
-            pres: timers.pres,
+            ..timers
         },
-        Timer::ConnReq => Timers {
-            mmest: timers.mmest,
-            term: timers.term,
+        Some(Timer::ConnReq) => Timers {
             connreq: runs,
-            nochannel: timers.nochannel,
-            pres: timers.pres,
+            ..timers
         },
-        Timer::NoChannel => Timers {
-            mmest: timers.mmest,
-            term: timers.term,
-            connreq: timers.connreq,
+        Some(Timer::NoChannel) => Timers {
             nochannel: runs,
-            pres: timers.pres,
+            ..timers
         },
-        Timer::Pres => Timers {
-            mmest: timers.mmest,
-            term: timers.term,
-            connreq: timers.connreq,
-            nochannel: timers.nochannel,
+        Some(Timer::Pres) => Timers {
             pres: runs,
+            ..timers
         },
     }
 }

@@ -8,7 +8,7 @@ use borrow.Author.Tests.{not-true}
 use Rattle.octets.proofs.Choice.{never}
 use Rattle.codes.specs.declared.state.State.TheVariants.{U0}
 use Rattle.context.specs.declared.Context.{Context}
-use Rattle.timer.specs.Timers.{is_on, timer_number, running_among}
+use Rattle.timer.specs.Timers.{any_on, number_of_any, running_among}
 use Rattle.context.specs.States.{same}
 use Rattle.fitness.specs.Fitness.{Fitness, fit_by}
 use Rattle.context.proofs.Whole.{if_so}
@@ -49,7 +49,7 @@ Listens SetParameters = Unit {0}
 
 abbrev pub SetRightly : Context → Taken → Type 0
 SetRightly x d =
-    rightly (timer_number d.sets) (running_among x.timers) (cond (same d.next U0) 0 (running_among (timers_after d x.timers))) ≡ true
+    rightly (number_of_any d.sets) (running_among x.timers) (cond (same d.next U0) 0 (running_among (timers_after d x.timers))) ≡ true
 
 -- The same of what a group call keeps.
 abbrev pub KeepsTalk : Fitness → Context → Taken → Type 0
@@ -94,9 +94,9 @@ module _ (fitness : Fitness) (most : ℕ) (table : List Row) (sound : Sound fitn
   decided_heard = decided_holds (at_most most) Heard x (λ k d e. tt) (λ k. tt) (λ cause. tt) table sound.actions-few (λ u. tt) tt (λ u. refl)
 
   -- No timer is set anew while it runs: in a fit context a row that is taken sets none that runs.
-  pub sets_fresh_lem : fit_by fitness x ≡ true → (n code : ℕ) → OfTaken (λ d. is_on d.sets x.timers ≡ false) (decided_by table x n code)
+  pub sets_fresh_lem : fit_by fitness x ≡ true → (n code : ℕ) → OfTaken (λ d. any_on d.sets x.timers ≡ false) (decided_by table x n code)
   sets_fresh_lem fit =
-      decided_holds (sets_fresh fitness) (λ k. OfTaken (λ d. is_on d.sets x.timers ≡ false)) x
+      decided_holds (sets_fresh fitness) (λ k. OfTaken (λ d. any_on d.sets x.timers ≡ false)) x
       (λ k d e. not-true _ (if_so _ _ e (fit-timers fitness x fit))) (λ k. tt) (λ cause. tt) table sound.set_fresh (λ u. tt) tt (λ u. tt)
 
   -- The timer that is set did not run, and runs afterwards; where none is set, the one that runs is the one that ran.

@@ -6,7 +6,7 @@ use lib.Dec.{eqb}
 use borrow.Author.Tests.{not-true}
 use Rattle.octets.proofs.Choice.{never}
 use Rattle.timer.specs.declared.Timers.{Timers}
-use Rattle.timer.specs.declared.Timer.TheVariants.{NoTimer}
+use Rattle.std.specs.Prelude.{Some, None}
 use Rattle.timer.specs.Timers.{is_on}
 use Rattle.timer.proofs.Whole.{and_left, and_right}
 use Rattle.transitions.specs.declared.Stores.TheVariants.{ValueAndReference, ItsReference, ItsReferenceAndOriginator}
@@ -33,7 +33,7 @@ module _ (t : Timers) where
   Shows d (send m) = d.sends ≡ m
   Shows d (stop k) = d.stops ≡ k
   Shows d (set k) = d.sets ≡ k
-  Shows d (set_unless_running k) = d.sets ≡ cond (is_on k t) NoTimer k
+  Shows d (set_unless_running k) = d.sets ≡ cond (is_on k t) None (Some k)
   Shows d store_value-and-reference = d.stores ≡ ValueAndReference
   Shows d store_its_reference = d.stores ≡ ItsReference
   Shows d store_its_reference-and_originator = d.stores ≡ ItsReferenceAndOriginator

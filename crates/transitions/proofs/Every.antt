@@ -10,7 +10,7 @@ use Rattle.octets.proofs.Choice.{at_cond}
 use Rattle.codes.specs.declared.state.State.{State}
 use Rattle.codes.specs.declared.state.State.TheVariants.{U0}
 use Rattle.timer.specs.declared.Timers.{Timers}
-use Rattle.timer.specs.Timers.{is_on}
+use Rattle.timer.specs.Timers.{any_on}
 use Rattle.context.specs.declared.Context.{Context}
 use Rattle.context.specs.declared.Remembered.{Remembered}
 use Rattle.context.specs.States.{same}
@@ -59,7 +59,7 @@ Test = ℕ → State → Timers → Remembered → Taken → Bool
 abbrev pub possible : Asked → Timers → Bool
 possible nothing t = true
 possible ORIG t = true
-possible (running k) t = is_on k t
+possible (running k) t = any_on k t
 possible pending t = true
 
 -- The test at a place, whichever timers run and whatever is remembered.

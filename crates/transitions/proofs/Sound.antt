@@ -6,7 +6,7 @@ use mathlib.Core.List.{List, [], ◌∷◌}
 use mathlib.Core.Bool.{Bool, true, false, cond, not, ◌&&◌, ◌||◌}
 use lib.Dec.{eqb, leb}
 use Rattle.codes.specs.declared.state.State.TheVariants.{U0, U2ws}
-use Rattle.timer.specs.Timers.{is_on, timer_number, running_among, with_timer}
+use Rattle.timer.specs.Timers.{any_on, number_of_any, running_among, with_timer}
 use Rattle.context.specs.declared.Chooser.{Chooser}
 use Rattle.context.specs.declared.Chooser.TheVariants.{Us, Cell}
 use Rattle.context.specs.States.{same, among}
@@ -124,7 +124,7 @@ keeps_talk fitness n s t r d =
 
 -- No timer is set that runs.
 abbrev pub sets_fresh : Fitness → Test
-sets_fresh fitness n s t r d = not (timers_fit_by fitness s t) || not (is_on d.sets t)
+sets_fresh fitness n s t r d = not (timers_fit_by fitness s t) || not (any_on d.sets t)
 
 -- By numbers of timers, of what is set, what ran before and what runs after: what is set did not run, and runs; where none is set, what runs is what ran.
 abbrev pub rightly : ℕ → ℕ → ℕ → Bool
@@ -132,7 +132,7 @@ rightly started before after = cond (eqb started 0) (eqb after 0 || eqb after be
 
 abbrev pub sets_rightly : Fitness → Test
 sets_rightly fitness n s t r d =
-    not (timers_fit_by fitness s t) || rightly (timer_number d.sets) (running_among t) (cond (same d.next U0) 0 (running_among (timers_after d t)))
+    not (timers_fit_by fitness s t) || rightly (number_of_any d.sets) (running_among t) (cond (same d.next U0) 0 (running_among (timers_after d t)))
 
 -- The actions are at most a number.
 abbrev pub at_most : ℕ → Test

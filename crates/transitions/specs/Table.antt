@@ -1,5 +1,5 @@
 -- Document 01, "Events and steps", and 24.068, 6.2 to 6.5: the step tables, row by row, and what a table of rows says of an event in a context.
-use Rattle.std.specs.Prelude.{ℕ, ◌+◌, List, [], ◌∷◌, ◌++◌, Bool, true, false, cond, ◌&&◌, eqb}
+use Rattle.std.specs.Prelude.{ℕ, ◌+◌, List, [], ◌∷◌, ◌++◌, Bool, true, false, cond, ◌&&◌, eqb, Option, Some, None}
 use Rattle.octets.specs.Rows.{rows}
 use Rattle.codes.specs.declared.state.State.{State}
 use Rattle.codes.specs.declared.state.State.TheVariants.{U0, U0p, U1, U2, U3, U4, U5, U6, U2sl, U2wr, U2r, U2ws, U2sr, U2nc}
@@ -25,8 +25,8 @@ use Rattle.context.specs.Remembered.{remembering, returning}
 use Rattle.context.specs.States.{same}
 use Rattle.fitness.specs.Tables.{sub_states}
 use Rattle.timer.specs.declared.Timer.{Timer}
-use Rattle.timer.specs.declared.Timer.TheVariants.{NoTimer, MmEst, Term, ConnReq, NoChannel, Pres}
-use Rattle.timer.specs.Timers.{timer_number, is_on, with_timer}
+use Rattle.timer.specs.declared.Timer.TheVariants.{MmEst, Term, ConnReq, NoChannel, Pres}
+use Rattle.timer.specs.Timers.{number_of_any, is_on, any_on, with_timer}
 use Rattle.transitions.specs.declared.Send.{Send}
 use Rattle.transitions.specs.declared.Send.TheVariants.{Nothing, ImmediateSetup, Setup, TerminationRequest}
 use Rattle.transitions.specs.declared.Stores.{Stores}
@@ -48,7 +48,7 @@ pub data Occasion : Type 0 where
 pub data Asked : Type 0 where
   nothing : Asked
   ORIG : Asked
-  running : Timer → Asked
+  running : Option Timer → Asked
   pending : Asked
 
 -- Where it holds: a state, and what is asked there.
@@ -69,8 +69,8 @@ pub data Actions : Type 0 where
 -- What it brings about beside them.
 pub data Effect : Type 0 where
   send : Send → Effect
-  stop : Timer → Effect
-  set : Timer → Effect
+  stop : Option Timer → Effect
+  set : Option Timer → Effect
   set_unless_running : Timer → Effect
   store_value-and-reference : Effect
   store_its_reference : Effect
@@ -87,7 +87,7 @@ each [] = []
 each (s ∷ more) = (s, nothing) ∷ each more
 
 abbrev pub U0p-U1-with-T-MM-est : List Place
-U0p-U1-with-T-MM-est = (U0p, nothing) ∷ (U1, running MmEst) ∷ []
+U0p-U1-with-T-MM-est = (U0p, nothing) ∷ (U1, running (Some MmEst)) ∷ []
 
 -- Each of these states, where ORIG is true, and where a termination request is pending.
 abbrev pub where_orig : List State → List Place
@@ -122,11 +122,11 @@ rejecting Group = Forget
 
 -- In the first two an invitation waits in U3 with no timer. In the third T_pres runs there: "The standard allows a timer there: at expiry the context is cleared and
 -- U0 entered, with action 0." So event 10 sets it, 3 stops it, and 19, its expiry, has a row where it runs; elsewhere, and in the first two, 19 has none.
-abbrev pub inviting : Table → Timer
-inviting First = NoTimer
-inviting Second = NoTimer
-inviting Third = Pres
-inviting Group = NoTimer
+abbrev pub inviting : Table → Option Timer
+inviting First = None
+inviting Second = None
+inviting Third = Some Pres
+inviting Group = None
 
 -- A group call has sub-states of U2 in the place of U2 and U6: CONNECT leads to U2sl, since it comes over a link of its own, and group receive mode to U2r. CONNECT says there
 -- whether we are the originator.
@@ -162,26 +162,26 @@ choosing Protocol.Group n = n
 abbrev pub broadcast_rows : Table → List Row
 broadcast_rows table =
     row (each (U6 ∷ [])) (event 12) (to U6) (act 1) (set_unless_running NoChannel ∷ []) ∷
-    row (each (U6 ∷ [])) (event 13) (to U6) (act 1) (stop NoChannel ∷ []) ∷
-    row ((U6, running NoChannel) ∷ []) (event 17) (to U0) (act (1 + 8)) [] ∷
-    row ((U1, ORIG) ∷ (U2, ORIG) ∷ []) (event 4) (to U5) (act 0) (send TerminationRequest ∷ stop MmEst ∷ set Term ∷ mind (asking table) ∷ []) ∷
+    row (each (U6 ∷ [])) (event 13) (to U6) (act 1) (stop (Some NoChannel) ∷ []) ∷
+    row ((U6, running (Some NoChannel)) ∷ []) (event 17) (to U0) (act (1 + 8)) [] ∷
+    row ((U1, ORIG) ∷ (U2, ORIG) ∷ []) (event 4) (to U5) (act 0) (send TerminationRequest ∷ stop (Some MmEst) ∷ set (Some Term) ∷ mind (asking table) ∷ []) ∷
     []
 
 -- 24.068. Actions as below, and 64: ask RR to enter group transmit mode. What becomes pending is sent "as soon as COMM = T": at once, where COMM is true (`call/specs/Talk: flushed`).
 abbrev pub group_rows : List Row
 group_rows =
     -- 6.2.3: the mode that RR enters when the call is joined.
-    row (each (U4 ∷ [])) (event 34) (to U2sr) (act 1) (stop ConnReq ∷ []) ∷
-    row (each (U4 ∷ [])) (event 35) (to U2sl) (act 1) (stop ConnReq ∷ []) ∷
+    row (each (U4 ∷ [])) (event 34) (to U2sr) (act 1) (stop (Some ConnReq) ∷ []) ∷
+    row (each (U4 ∷ [])) (event 35) (to U2sl) (act 1) (stop (Some ConnReq) ∷ []) ∷
     -- 6.3.1.1: "enters on request of higher layers sub-state U2wr and asks RR to enter RR receive mode", "U2ws and asks RR to enter group transmit mode".
     row (each (U2sl ∷ U2sr ∷ [])) (event 32) (to U2wr) (act 4) [] ∷
     row (each (U2wr ∷ U2r ∷ [])) (event 33) (to U2ws) (act 64) [] ∷
     -- 6.3.1.1, table 6.2: the sub-state that belongs to the mode which RR enters: idle, group receive, group transmit, dedicated. T_no channel runs in U2nc.
-    row ((U2nc, running NoChannel) ∷ []) (event 17) (to U0) (act (1 + 8)) [] ∷
+    row ((U2nc, running (Some NoChannel)) ∷ []) (event 17) (to U0) (act (1 + 8)) [] ∷
     row (each sub_states) (event 12) (to U2nc) (act 0) (set_unless_running NoChannel ∷ []) ∷
-    row (each sub_states) (event 11) (to U2r) (act 0) (stop NoChannel ∷ []) ∷
-    row (each sub_states) (event 34) (to U2sr) (act 0) (stop NoChannel ∷ []) ∷
-    row (each sub_states) (event 35) (to U2sl) (act 0) (stop NoChannel ∷ []) ∷
+    row (each sub_states) (event 11) (to U2r) (act 0) (stop (Some NoChannel) ∷ []) ∷
+    row (each sub_states) (event 34) (to U2sr) (act 0) (stop (Some NoChannel) ∷ []) ∷
+    row (each sub_states) (event 35) (to U2sl) (act 0) (stop (Some NoChannel) ∷ []) ∷
     -- 6.4.1: a termination is asked for where ORIG is true, and is pending; "If the MS is in sub-state U2r, it shall enter sub-state U2ws and ask RR to enter group transmit mode".
     row ((U2r, ORIG) ∷ []) (event 4) (to U2ws) (act 64) (note Note.TerminationPends ∷ []) ∷
     row (where_orig (U1 ∷ U2sl ∷ U2wr ∷ U2ws ∷ U2sr ∷ U2nc ∷ [])) (event 4) stay (act 0) (note Note.TerminationPends ∷ []) ∷
@@ -200,20 +200,20 @@ own_rows Protocol.Group table = group_rows
 -- 32 tell lower layers that the MM connection exists implicitly. "Events 1, 2 and 10 carry a transaction value and a reference, stored when taken."
 abbrev pub shared_rows : Protocol → Table → List Row
 shared_rows p table =
-    row (each (U0 ∷ [])) (event 1) (to U0p) (act 2) (set MmEst ∷ store_value-and-reference ∷ note (choosing p Note.WeChose) ∷ []) ∷
-    row (each (U0 ∷ [])) (event 2) (to U1) (act 0) (send ImmediateSetup ∷ set MmEst ∷ store_value-and-reference ∷ note (choosing p Note.WeChose) ∷ []) ∷
-    row (each (U0p ∷ [])) (event 6) (to U1) (act 0) (send Setup ∷ stop MmEst ∷ []) ∷
+    row (each (U0 ∷ [])) (event 1) (to U0p) (act 2) (set (Some MmEst) ∷ store_value-and-reference ∷ note (choosing p Note.WeChose) ∷ []) ∷
+    row (each (U0 ∷ [])) (event 2) (to U1) (act 0) (send ImmediateSetup ∷ set (Some MmEst) ∷ store_value-and-reference ∷ note (choosing p Note.WeChose) ∷ []) ∷
+    row (each (U0p ∷ [])) (event 6) (to U1) (act 0) (send Setup ∷ stop (Some MmEst) ∷ []) ∷
     row U0p-U1-with-T-MM-est (event 7) (to U0) (act 0) [] ∷
     row U0p-U1-with-T-MM-est (event 14) (to U0) (act 8) [] ∷
     row (each (U0p ∷ U1 ∷ [])) (event 8) (to U0) (act 8) [] ∷
-    row (each (U0p ∷ U1 ∷ [])) (message CONNECT) (to (connected p)) implicit (connecting p ∷ stop MmEst ∷ []) ∷
+    row (each (U0p ∷ U1 ∷ [])) (message CONNECT) (to (connected p)) implicit (connecting p ∷ stop (Some MmEst) ∷ []) ∷
     row (each (U0 ∷ [])) (event 10) (to U3) (act 1) (set (inviting table) ∷ store_value-and-reference ∷ note (choosing p Note.CellChose) ∷ []) ∷
-    row (each (U3 ∷ [])) (event 3) (to U4) (act 4) (stop (inviting table) ∷ set ConnReq ∷ []) ∷
+    row (each (U3 ∷ [])) (event 3) (to U4) (act 4) (stop (inviting table) ∷ set (Some ConnReq) ∷ []) ∷
     row ((U3, running (inviting table)) ∷ []) (event 19) (to U0) (act 0) [] ∷
-    row (each (U4 ∷ [])) (event 11) (to (receiving p)) (act 1) (stop ConnReq ∷ []) ∷
+    row (each (U4 ∷ [])) (event 11) (to (receiving p)) (act 1) (stop (Some ConnReq) ∷ []) ∷
     row (each (U4 ∷ [])) (event 16) (to U0) (act (1 + 8)) [] ∷
-    row (each (U5 ∷ [])) (message TERMINATION-REJECT) (rejected table) (act 1) (stop Term ∷ mind (rejecting table) ∷ []) ∷
-    row ((U5, running Term) ∷ []) (event 15) (to U0) (act (1 + 8)) [] ∷
+    row (each (U5 ∷ [])) (message TERMINATION-REJECT) (rejected table) (act 1) (stop (Some Term) ∷ mind (rejecting table) ∷ []) ∷
+    row ((U5, running (Some Term)) ∷ []) (event 15) (to U0) (act (1 + 8)) [] ∷
     row (each (all_but_u0 p)) (message TERMINATION) (to U0) (act (1 + 16)) [] ∷
     row (each (all_but_u0 p)) (event 5) (to U0) (act 16) [] ∷
     row (each (all_but_u0 p)) (event 9) (to U0) (act (1 + 8)) [] ∷
@@ -231,7 +231,7 @@ step_table table = rows_of (protocol_of table) table
 abbrev pub met : Asked → Context → Bool
 met nothing x = true
 met ORIG x = x.parameters.orig
-met (running timer) x = is_on timer x.timers
+met (running timer) x = any_on timer x.timers
 met pending x = x.talk.termination
 
 -- The next state, where something or nothing is remembered.
@@ -249,7 +249,7 @@ abbrev pub adding : Timers → Effect → Taken → Taken
 adding t (send m) d = record { next = d.next; actions = d.actions; sends = m; stops = d.stops; sets = d.sets; stores = d.stores; memory = d.memory; note = d.note }
 adding t (stop k) d = record { next = d.next; actions = d.actions; sends = d.sends; stops = k; sets = d.sets; stores = d.stores; memory = d.memory; note = d.note }
 adding t (set k) d = record { next = d.next; actions = d.actions; sends = d.sends; stops = d.stops; sets = k; stores = d.stores; memory = d.memory; note = d.note }
-adding t (set_unless_running k) d = record { next = d.next; actions = d.actions; sends = d.sends; stops = d.stops; sets = cond (is_on k t) NoTimer k; stores = d.stores; memory = d.memory; note = d.note }
+adding t (set_unless_running k) d = record { next = d.next; actions = d.actions; sends = d.sends; stops = d.stops; sets = cond (is_on k t) None (Some k); stores = d.stores; memory = d.memory; note = d.note }
 adding t store_value-and-reference d = record { next = d.next; actions = d.actions; sends = d.sends; stops = d.stops; sets = d.sets; stores = Stores.ValueAndReference; memory = d.memory; note = d.note }
 adding t store_its_reference d = record { next = d.next; actions = d.actions; sends = d.sends; stops = d.stops; sets = d.sets; stores = Stores.ItsReference; memory = d.memory; note = d.note }
 adding t store_its_reference-and_originator d = record { next = d.next; actions = d.actions; sends = d.sends; stops = d.stops; sets = d.sets; stores = Stores.ItsReferenceAndOriginator; memory = d.memory; note = d.note }
@@ -268,8 +268,8 @@ taken s t r next actions effects =
       next = next_state s r next;
       actions = actions_in s t actions;
       sends = Nothing;
-      stops = NoTimer;
-      sets = NoTimer;
+      stops = None;
+      sets = None;
       stores = Stores.Nothing;
       memory = Keep;
       note = Note.Nothing;
@@ -348,7 +348,7 @@ decided_of table = decided_by (step_table table)
 
 -- The number of the timer that is set by what is decided, 0 for none.
 abbrev pub set_by : Decision → ℕ
-set_by (Take d) = timer_number d.sets
+set_by (Take d) = number_of_any d.sets
 set_by NoStep = 0
 set_by Ignore = 0
 set_by (Report cause) = 0

@@ -42,15 +42,15 @@ pub enum Note {
     TerminationDropped,
 }
 
-// A row that is taken: next state, actions, what is sent, the timer that is stopped, the timer that is set, what is stored, what is remembered, and what is noted.
+// A row that is taken: next state, actions, what is sent, the timer that is stopped, if any, the timer that is set, if any, what is stored, what is remembered, and what is noted.
 // "Set unless running" sets none where the timer runs. The next state is a state: where a row returns to one that was remembered, whoever decides knows which.
 #[derive(Clone, Copy)]
 pub struct Taken {
     pub next: State,
     pub actions: u8,
     pub sends: Send,
-    pub stops: Timer,
-    pub sets: Timer,
+    pub stops: Option<Timer>,
+    pub sets: Option<Timer>,
     pub stores: Stores,
     pub memory: Memory,
     pub note: Note,

@@ -23,8 +23,8 @@ use Rattle.version.specs.Version.{greatest_actions, protocol_of}
 use Rattle.message.specs.declared.Own.{Own}
 use Rattle.reply.proofs.Fits.{OfARow, row-reply}
 use Rattle.step_arguments.specs.Arguments.{out_of_range, argument_refusal}
-use Rattle.radio.specs.declared.Told.{Told}
-use Rattle.radio.specs.declared.Told.TheVariants.{Is, NoEvent}
+use Rattle.std.specs.Prelude.{Option, Some, None}
+use Rattle.call.specs.declared.Event.{Event}
 use Rattle.radio.specs.Step.{event_of, told_due, due_to, reacted_to, refusal_of, reacted, step_of}
 use Rattle.radio.proofs.Numbers.{NoMessage, no_message}
 use Rattle.log_data.specs.Reading.{carries_call, no_reference}
@@ -42,10 +42,10 @@ carried-plain table x (Report cause) e p = absurd p
 carried-plain table x TellStatus e p = absurd p
 carried-plain table x SetParameters e p = absurd p
 
-event-plain : (table : Table) (x : Context) (t : Told) → NoMessage t → OfARow (settled table x (told_due t)).sends
+event-plain : (table : Table) (x : Context) (t : Option Event) → NoMessage t → OfARow (settled table x (told_due t)).sends
 unfolding settled_by told_due step_by no_step
-event-plain table x (Is event) h = carried-plain table x _ (seen_of event) (by_rows (fitness_of table) (greatest_actions table) (step_table table) (rows_sound table) x (seen_of event).number (seen_of event).code h)
-event-plain table x NoEvent h = tt
+event-plain table x (Some event) h = carried-plain table x _ (seen_of event) (by_rows (fitness_of table) (greatest_actions table) (step_table table) (rows_sound table) x (seen_of event).number (seen_of event).code h)
+event-plain table x None h = tt
 
 -- ---- the step
 
@@ -66,7 +66,7 @@ module _ (table : Table) (own : Own) (identity : List ℕ) (x : Context) (e : Gi
   number = e.happened.number
 
   -- Without a message, the octets do not matter.
-  no_octets : (t : Told) → NoMessage t → (s u : List ℕ) → reacted (protocol_of table) own identity s (settled table x (told_due t)) ≡ reacted (protocol_of table) own identity u (settled table x (told_due t))
+  no_octets : (t : Option Event) → NoMessage t → (s u : List ℕ) → reacted (protocol_of table) own identity s (settled table x (told_due t)) ≡ reacted (protocol_of table) own identity u (settled table x (told_due t))
   no_octets t h s u = rw (row-reply (protocol_of table) own identity s u (settled table x (told_due t)).context (settled table x (told_due t)).sends (settled table x (told_due t)).sent (event-plain table x t h))
 
   -- Without a call, the value and the reference do not matter.

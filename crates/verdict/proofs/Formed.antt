@@ -2,6 +2,7 @@
 use Prim.Native.Nat.{ℕ, zero, suc}
 use mathlib.Core.Path.{◌≡◌, refl, sym, ap, subst, ◌∙◌}
 use mathlib.Core.Bool.{Bool, true, false, cond}
+use Rattle.std.specs.Prelude.{Result, Ok, Err}
 use mathlib.Core.List.{List, [], ◌∷◌, ◌++◌}
 use mathlib.Core.Logic.{◌↔◌}
 use native.Mathlib.Nat.{zero-add}
@@ -15,8 +16,6 @@ use Rattle.septets.specs.Number.{number_at}
 use Rattle.septets.proofs.Meaning.{Octets, Shortest, Exact, number-exact}
 use Rattle.log_entry.specs.Layout.{Meant, written, version_bytes, entries as layout, whole}
 use Rattle.log_entry.specs.Reading.{entry_at, meant}
-use Rattle.log_entry.specs.declared.Found.{Found}
-use Rattle.log_entry.specs.declared.Found.TheVariants.{Read, Unreadable}
 use Rattle.log_entry.proofs.Exact.{EntryExact, entry-exact}
 use Rattle.judge_laws.specs.Log.{Log, done, torn, WellFormed, Entry}
 use Rattle.judge_laws.specs.Reading.{on_read, entries_in, entries, written as written_by}
@@ -26,6 +25,7 @@ use Rattle.verdict.specs.Table.{steps}
 use Rattle.verdict.specs.Entries.{entry_meant, read_of, reader, writer}
 use Rattle.verdict.specs.Formed.{Readable, AllInRange, Laid}
 use Rattle.verdict.proofs.Recorder.{AllRanged, carried_all, meant_all, carried-written, carried_fine, version-reads}
+use Rattle.log_entry.specs.declared.Entry.{Entry as LogEntry}
 
 module _ (table : Table) (own : Own) (identity s : List ℕ) where
   -- ---- what is read is laid out
@@ -43,11 +43,11 @@ module _ (table : Table) (own : Own) (identity s : List ℕ) where
 
     -- One entry, and the entries behind it.
     by_read : (most at : ℕ) → ((place : ℕ) → WellFormed (entries_in (reader table own identity) most s place) → LaidFrom place)
-        → (f : Found) → EntryExact table s o at f
+        → (f : Result (LogEntry × ℕ) ℕ) → EntryExact table s o at f
         → WellFormed (on_read (read_of table own identity s f) (λ place. entries_in (reader table own identity) most s place)) → LaidFrom at
     unfolding layout
-    by_read most at more (Unreadable place) x w = absurd w
-    by_read most at more (Read e next) x w =
+    by_read most at more (Err place) x w = absurd w
+    by_read most at more (Ok (e, next)) x w =
         let m : Meant = meant s e in
         let n : ℕ = length (written table m) in
         let l = more next w in

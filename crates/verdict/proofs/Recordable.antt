@@ -3,6 +3,7 @@
 use Prim.Native.Nat.{ℕ, ◌+◌, ◌≤◌, ◌<◌}
 use mathlib.Core.Path.{◌≡◌, refl, ap}
 use mathlib.Core.Bool.{Bool, true, false, not, ◌&&◌, ◌||◌}
+use Rattle.std.specs.Prelude.{Result, Ok, Err}
 use mathlib.Core.List.{List, [], ◌∷◌, ◌++◌}
 use native.Mathlib.Omega.{arith}
 use lib.Dec.{eqb, leb, ltb}
@@ -29,8 +30,8 @@ use Rattle.octets.specs.declared.Reference.{Reference}
 use Rattle.log_data.specs.Reading.{carries_call}
 use Rattle.log_entry.specs.Layout.{Field, number, event_number, octets, all_in_range, data_fields, claim_fields, fields, ranged}
 use Rattle.recorder.specs.Recording.{added, record_answer, answer_number}
-use Rattle.recorder.specs.declared.Recorded.{Recorded}
-use Rattle.recorder.specs.declared.Recorded.TheVariants.{Used, OutOfRange, TooLong, NoRoom}
+use Rattle.recorder.specs.declared.Refusal.{Refusal}
+use Rattle.recorder.specs.declared.Refusal.TheVariants.{OutOfRange, TooLong, NoRoom}
 use Rattle.judge_laws.specs.Log.{Entry}
 use Rattle.judge_laws.specs.Recorded.{Move, entry_of}
 use Rattle.verdict.specs.Table.{GivenEvent, claim_of, stepped, steps, recordable}
@@ -163,16 +164,16 @@ module _ (table : Table) (own : Own) (identity : List ℕ) (x : Context) (e : Gi
         h.few (omega (arith, l)))))
 
     -- So with no more bytes used than there are, the recorder does not answer 4: it records the entry, or answers 10 or 11.
-    pub true-step-recorded : (log : List ℕ) (used : ℕ) → used ≤ length log → record_answer table log used (meant_by table own identity (entry_after table own identity x e delta)) ≡ OutOfRange → ⊥
+    pub true-step-recorded : (log : List ℕ) (used : ℕ) → used ≤ length log → record_answer table log used (meant_by table own identity (entry_after table own identity x e delta)) ≡ Err OutOfRange → ⊥
     unfolding record_answer
     true-step-recorded log used inside =
         rw (le-ltb (length log) used inside, true-step-ranged)
-        (at_cond Other (ltb longest total) TooLong _ (λ t q. let z : ◌≡◌ {A = ℕ} 10 4 = ap answer_number q in omega arith)
-        (λ t. at_cond Other (ltb (length log) total) NoRoom (Used total) (λ u q. let z : ◌≡◌ {A = ℕ} 11 4 = ap answer_number q in omega arith)
+        (at_cond Other (ltb longest total) (Err TooLong) _ (λ t q. let z : ◌≡◌ {A = ℕ} 10 4 = ap answer_number q in omega arith)
+        (λ t. at_cond Other (ltb (length log) total) (Err NoRoom) (Ok total) (λ u q. let z : ◌≡◌ {A = ℕ} 11 4 = ap answer_number q in omega arith)
         (λ u q. let z : ◌≡◌ {A = ℕ} 0 4 = ap answer_number q in omega arith)))
       where
-        Other : Recorded → Type 0
-        Other r = r ≡ OutOfRange → ⊥
+        Other : Result ℕ Refusal → Type 0
+        Other r = r ≡ Err OutOfRange → ⊥
 
         total : ℕ
         total = used + length (added table used (meant_by table own identity (entry_after table own identity x e delta)))
@@ -182,6 +183,6 @@ module _ (table : Table) (own : Own) (identity : List ℕ) (x : Context) (e : Gi
         → used + length (added table used (meant_by table own identity (entry_after table own identity x e delta))) ≤ longest
         → used + length (added table used (meant_by table own identity (entry_after table own identity x e delta))) ≤ length log
         → record_answer table log used (meant_by table own identity (entry_after table own identity x e delta))
-        ≡ Used (used + length (added table used (meant_by table own identity (entry_after table own identity x e delta))))
+        ≡ Ok (used + length (added table used (meant_by table own identity (entry_after table own identity x e delta))))
     unfolding record_answer
     true-step-taken log used short room = rw (le-ltb (length log) used (omega arith), true-step-ranged, le-ltb longest _ short, le-ltb (length log) _ room) refl

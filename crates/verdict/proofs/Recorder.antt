@@ -2,6 +2,7 @@
 use Prim.Native.Nat.{ℕ, ◌+◌, ◌≤◌, ◌<◌}
 use mathlib.Core.Path.{◌≡◌, refl, sym, ap, ◌∙◌}
 use mathlib.Core.Bool.{Bool, true, false, cond}
+use Rattle.std.specs.Prelude.{Some, Ok}
 use mathlib.Core.List.{List, [], ◌∷◌, ◌++◌, append_assoc, append-nil}
 use native.Mathlib.Omega.{arith}
 use native.Mathlib.Nat.{zero-add}
@@ -17,13 +18,11 @@ use Rattle.version.specs.Version.{version_of, table_of, longest}
 use Rattle.version.proofs.Back.{table-number}
 use Rattle.version.proofs.Tables.{number_small}
 use Rattle.septets.specs.Number.{grouped, groups, groups_at, joined, number_at}
-use Rattle.septets.specs.declared.Number.TheVariants.{Value}
 use Rattle.septets.proofs.Meaning.{number-reads}
 use Rattle.log_data.specs.Reading.{carries_call}
 use Rattle.log_entry.specs.Layout.{Meant, ranged, kept, version_bytes, entries as layout, whole}
 use Rattle.log_entry.proofs.ReadBack.{kept-written, kept-ranged}
 use Rattle.recorder.specs.Recording.{Records, Begins as LogBegins, so_far}
-use Rattle.recorder.specs.declared.Recorded.TheVariants.{Used}
 use Rattle.recorder.proofs.Growth.{grown, length-kept, log_grows, whole_grows, begun-log}
 use Rattle.judge_laws.specs.Steps.{Steps}
 use Rattle.judge_laws.specs.Log.{Entry, Moment, begin, next, Explains}
@@ -117,7 +116,7 @@ module _ (table : Table) (own : Own) (identity : List ℕ) where
   abbrev Growing : (List Meant → List ℕ) → Type 0
   Growing so =
       (past : List Meant) (e : Meant) (used : ℕ) (before after : List ℕ) (total : ℕ) → take used before ≡ so past
-      → Records table e used before after (Used total) → take total after ≡ so (past ++ (e ∷ []))
+      → Records table e used before after (Ok total) → take total after ≡ so (past ++ (e ∷ []))
 
   pub record Grows (so : List Meant → List ℕ) (past : List Meant) (es : List (Entry 𝓢)) (used : ℕ) (before after : List ℕ) (total : ℕ) : Type 0 where
     pub bytes : take total after ≡ so (past ++ meant_all es)
@@ -141,7 +140,7 @@ module _ (table : Table) (own : Own) (identity : List ℕ) where
           → Recording table own identity ms (𝓢.after x m.event) 0 so_far between after total → Grows so later es so_far between after total)
           → (Recording table own identity ms (𝓢.after x m.event) (waited + m.wait) used before after total → Grows so past fs used before after total)
           → cond b
-          ((between : List ℕ) × (so_far : ℕ) × Records table (meant_by table own identity e) used before between (Used so_far)
+          ((between : List ℕ) × (so_far : ℕ) × Records table (meant_by table own identity e) used before between (Ok so_far)
           × Recording table own identity ms (𝓢.after x m.event) 0 so_far between after total)
           (Recording table own identity ms (𝓢.after x m.event) (waited + m.wait) used before after total)
           → Grows so past (cond b (e ∷ es) fs) used before after total
@@ -159,9 +158,9 @@ module _ (table : Table) (own : Own) (identity : List ℕ) where
 
 -- ---- the promise
 
-pub version-reads : (table : Table) (rest : List ℕ) → number_at (version_bytes table ++ rest) 0 ≡ Value (version_of table) (length (version_bytes table))
+pub version-reads : (table : Table) (rest : List ℕ) → number_at (version_bytes table ++ rest) 0 ≡ Some (version_of table, length (version_bytes table))
 version-reads table rest =
-    number-reads (version_of table) (omega (arith, number_small table)) [] rest ∙ ap (Value (version_of table)) (zero-add (length (version_bytes table)))
+    number-reads (version_of table) (omega (arith, number_small table)) [] rest ∙ ap (λ (next : ℕ). Some (version_of table, next)) (zero-add (length (version_bytes table)))
 
 -- "A log our recorder wrote from true steps is always accepted."
 -- A host makes steps from a cleared context on, under settings in range, one joining timer from 10,000 to 30,000 ms and one invitation timer from 1,000 to 600,000 ms,
@@ -225,7 +224,7 @@ module _ (table : Table) (own : Own) (identity : List ℕ) (settings : settings_
         go (f ∷ fs) u q = q
 
   -- From a log that the recorder began on: the bytes used, whatever steps were made.
-  module _ (first before after : List ℕ) (used total : ℕ) (begun : LogBegins table first before (Used used))
+  module _ (first before after : List ℕ) (used total : ℕ) (begun : LogBegins table first before (Ok used))
       (recording : Recording table own identity ms 𝓢₁.cleared 0 used before after total) where
     pub begun-accepted : AcceptedWith (take total after)
     begun-accepted =
@@ -236,7 +235,7 @@ module _ (table : Table) (own : Own) (identity : List ℕ) (settings : settings_
 
 -- A log that the recorder began, with no entry: it is accepted with 0 entries, and every timer is left.
 pub begun-alone : (table : Table) (own : Own) (identity : List ℕ) → settings_out own.key (length identity) ≡ false → (before after : List ℕ) (used : ℕ)
-    → LogBegins table before after (Used used) → judge_of own identity (take used after) ≡ Accepted 0 (window_of (range joining)) (invitation_told table (range invitation))
+    → LogBegins table before after (Ok used) → judge_of own identity (take used after) ≡ Accepted 0 (window_of (range joining)) (invitation_told table (range invitation))
 unfolding whole layout version_of grouped groups judge_of version_judged table_of number_at groups_at joined entries entries_in judge_two judge judge_from invitation_told
 begun-alone First own identity settings before after used begun = rw ((begun-log First before after used begun).used, settings) refl
 begun-alone Second own identity settings before after used begun = rw ((begun-log Second before after used begun).used, settings) refl

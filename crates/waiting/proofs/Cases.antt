@@ -36,7 +36,7 @@ use Rattle.log_data.specs.Reading.{carries_call, call_at, received_at, data_at}
 use Rattle.version.specs.declared.Table.{Table}
 use Rattle.version.specs.declared.Table.TheVariants.{First, Second, Third}
 use Rattle.version.specs.Version.{table_of, has_event, greatest_state, greatest_actions, protocol_of}
-use Rattle.log_field.specs.Reading.{small_at, run_at}
+use Rattle.log_field.specs.Reading.{run_at}
 use Rattle.log_claim.specs.Reading.{claim_at}
 use Rattle.log_entry.specs.Reading.{rest_at, entry_at}
 use Rattle.judge_laws.specs.Judge.{narrow, turn, judge_from, judge}
@@ -213,7 +213,7 @@ pub record Answers : Type 0 where
   pub u3_second : judge_of own identity (inviting hour) ≡ Accepted 2 any_joining Untold
 
 pub answers : Answers
-unfolding judge_of version_judged invitation_told tells_invitation table_of settings_out judge_two judge judge_from turn narrow entries entries_in number_at groups_at joined up_to small_at run_at call_at received_at data_at claim_at rest_at entry_at has_event greatest_state greatest_actions carries_call agree parameters_number weighs step_of refusal_of fitness_refusal argument_refusal out_of_range reacted_to due_to event_of told_due settled_by step_by seen_of carried_out decided_by decided_in step_table heard_in happened_in afterwards with_timer parameters_after entering start_row set_row value_after reference_after cleared fit_by consistent_by timers_fit_by remembered_fit_by chooser_fit_by pending_fit_by talk_fit_by is_cleared running_among remembering returning expiry_of length_of reply_of row_of own_of status_due request_due due_of same_octets fitness_of protocol_of adopted originating noted awaiting_after sent_in flushed discriminator counted_at within next_element element_among element_from lies whole_of termination_reject_of body_of read_message table type_of head_of written sent hearing flag_in flag_by flag_of seen_message understood_due reading_due transaction_is awaited_is transaction_fits cause_in type_cause asked_of
+unfolding judge_of version_judged invitation_told tells_invitation table_of settings_out judge_two judge judge_from turn narrow entries entries_in number_at groups_at joined up_to run_at call_at received_at data_at claim_at rest_at entry_at has_event greatest_state greatest_actions carries_call agree parameters_number weighs step_of refusal_of fitness_refusal argument_refusal out_of_range reacted_to due_to event_of told_due settled_by step_by seen_of carried_out decided_by decided_in step_table heard_in happened_in afterwards with_timer parameters_after entering start_row set_row value_after reference_after cleared fit_by consistent_by timers_fit_by remembered_fit_by chooser_fit_by pending_fit_by talk_fit_by is_cleared running_among remembering returning expiry_of length_of reply_of row_of own_of status_due request_due due_of same_octets fitness_of protocol_of adopted originating noted awaiting_after sent_in flushed discriminator counted_at within next_element element_among element_from lies whole_of termination_reject_of body_of read_message table type_of head_of written sent hearing flag_in flag_by flag_of seen_message understood_due reading_due transaction_is awaited_is transaction_fits cause_in type_cause asked_of
 answers = record {
   u0p = refl;
   u0p_over = refl;
@@ -276,7 +276,7 @@ pub record Waits : Type 0 where
   pub u3_second : Lasts 3600000 U3 (entries_of Second (inviting hour))
 
 pub waits : Waits
-unfolding entries entries_in number_at groups_at joined up_to small_at run_at call_at received_at data_at claim_at rest_at entry_at has_event greatest_state greatest_actions carries_call
+unfolding entries entries_in number_at groups_at joined up_to run_at call_at received_at data_at claim_at rest_at entry_at has_event greatest_state greatest_actions carries_call
 waits = record {
   u0p = (
     record {

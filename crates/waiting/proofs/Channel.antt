@@ -48,8 +48,8 @@ use Rattle.message.specs.declared.Own.{Own}
 use Rattle.received.proofs.Rules.{every_due}
 use Rattle.step_arguments.specs.Arguments.{settings_out, out_of_range}
 use Rattle.radio.specs.declared.Happened.{Happened}
-use Rattle.radio.specs.declared.Told.{Told}
-use Rattle.radio.specs.declared.Told.TheVariants.{Is, NoEvent}
+use Rattle.std.specs.Prelude.{Option, Some, None}
+use Rattle.call.specs.declared.Event.{Event}
 use Rattle.radio.specs.Step.{event_of, told_due, due_to, reacted_to, Reaction, refusal_of}
 use Rattle.radio.proofs.Numbers.{IsOf, event_of_number, message-number}
 use Rattle.radio.proofs.Range.{passed}
@@ -166,9 +166,9 @@ number_due_lem table identity x h s n =
     carried true = ne_eqb h.number 13 n
     carried false = ne_eqb h.number 13 n
 
-    told : (t : Told) → IsOf h.number h.value h.reference t → eqb (number_due (told_due t)) 13 ≡ false
-    told (Is event) p = subst (λ (seen : Seen). eqb seen.number 13 ≡ false) (sym p) (carried (eqb h.number 1 || (eqb h.number 2 || eqb h.number 10)))
-    told NoEvent p = refl
+    told : (t : Option Event) → IsOf h.number h.value h.reference t → eqb (number_due (told_due t)) 13 ≡ false
+    told (Some event) p = subst (λ (seen : Seen). eqb seen.number 13 ≡ false) (sym p) (carried (eqb h.number 1 || (eqb h.number 2 || eqb h.number 10)))
+    told None p = refl
 
 or-true : (a b : Bool) → b ≡ true → (a || b) ≡ true
 or-true true b e = refl

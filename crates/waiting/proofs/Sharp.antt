@@ -3,6 +3,7 @@
 use Prim.Native.Nat.{ℕ, ◌+◌, ◌≤◌}
 use mathlib.Core.Path.{◌≡◌, refl}
 use mathlib.Core.Bool.{true}
+use Rattle.std.specs.Prelude.{Some}
 use mathlib.Core.List.{List, ◌∷◌, ◌++◌}
 use native.Mathlib.Omega.{arith}
 use lib.Dec.{leb}
@@ -11,11 +12,9 @@ use borrow.Author.Tests.{leb-true}
 use Rattle.codes.specs.declared.state.State.TheVariants.{U0p, U3, U4, U5, U6}
 use Rattle.step_arguments.specs.Arguments.{settings_out}
 use Rattle.septets.specs.Number.{joined, groups_at, number_at}
-use Rattle.septets.specs.declared.Number.TheVariants.{Value}
 use Rattle.timer.specs.declared.Window.{Window}
 use Rattle.version.specs.declared.Table.{Table}
 use Rattle.version.specs.declared.Table.TheVariants.{First, Second, Third}
-use Rattle.version.specs.declared.Known.TheVariants.{Of}
 use Rattle.version.specs.Version.{table_of, longest, protocol_of}
 use Rattle.verdict.specs.declared.Invitation.TheVariants.{Untold, Told}
 use Rattle.verdict.specs.Demand.{Begins}
@@ -46,7 +45,7 @@ use Rattle.waiting.proofs.Cases.{
 }
 
 -- A log of one's own that begins with a version of one octet.
-begins_as : (number : ℕ) (table : Table) (s : List ℕ) → number_at s 0 ≡ Value number 1 → table_of number ≡ Of table → leb (length s) longest ≡ true → Begins own identity s
+begins_as : (number : ℕ) (table : Table) (s : List ℕ) → number_at s 0 ≡ Some (number, 1) → table_of number ≡ Some table → leb (length s) longest ≡ true → Begins own identity s
 unfolding settings_out
 begins_as number table s version known short = record {
   tested = record { short = leb-true _ _ short; settings = refl };

@@ -14,44 +14,41 @@ use Rattle.codes.specs.declared.protocol.Protocol.TheVariants.{Broadcast, Group}
 use Rattle.octets.specs.declared.Run.{Run}
 use Rattle.octets.specs.declared.Reference.{Reference}
 use Rattle.message.specs.declared.Classmark.{Classmark}
-use Rattle.message.specs.declared.Half.{Half}
-use Rattle.message.specs.declared.Half.TheVariants.{Absent, Present}
-use Rattle.message.specs.declared.Identity.{Identity}
-use Rattle.message.specs.declared.Identity.TheVariants.{Absent as Anonymous, Present as Named}
+use Rattle.std.specs.Prelude.{Option, Some, None, Result, Ok, Err}
+use Rattle.writing.specs.declared.Unwritten.{Unwritten}
+use Rattle.writing.specs.declared.Unwritten.TheVariants.{OutOfRange, ShortBuffer}
 use Rattle.message.specs.declared.Message.{Message}
 use Rattle.message.specs.declared.Message.TheVariants.{GetStatus}
-use Rattle.message.specs.Content.{content_of, run_octets, present, connect, get_status, immediate_setup, set_parameter, setup, status, termination, termination_reject, termination_request, reference_octets}
+use Rattle.message.specs.Content.{content_of, run_octets, connect, get_status, immediate_setup, set_parameter, setup, status, termination, termination_reject, termination_request, reference_octets}
 use Rattle.message.specs.Tables.{type_of, table}
-use Rattle.writing.specs.declared.Wrote.{Wrote}
-use Rattle.writing.specs.declared.Wrote.TheVariants.{Written, ShortBuffer, OutOfRange}
 use Rattle.limits.specs.Limits.{run_fits, reject_fits, half_count, status_fits}
 use Rattle.writing.specs.Bodies.{Writes, body_octets, body_fits, common_octets, common_fits, cause_octets, half_octets}
 use Rattle.limits.proofs.Tests.{good, fine, half_count_lem}
 
 module _ (d xs : List ℕ) (fits : Bool) where
-  pub refused : fits ≡ false → Writes d xs fits OutOfRange d
+  pub refused : fits ≡ false → Writes d xs fits (Err OutOfRange) d
   refused g = record { answer = simp g; after = simp g }
 
-  pub no_room : (n : ℕ) → fits ≡ true → length xs ≡ n → length d < n → Writes d xs fits ShortBuffer d
+  pub no_room : (n : ℕ) → fits ≡ true → length xs ≡ n → length d < n → Writes d xs fits (Err ShortBuffer) d
   no_room n g l h = let k : length d < length xs = omega arith in record { answer = simp (g, lt-ltb _ _ k); after = simp (g, lt-ltb _ _ k) }
 
-  pub done : (n : ℕ) (e : List ℕ) → fits ≡ true → length xs ≡ n → n ≤ length d → e ≡ sets d 0 xs → Writes d xs fits (Written n) e
+  pub done : (n : ℕ) (e : List ℕ) → fits ≡ true → length xs ≡ n → n ≤ length d → e ≡ sets d 0 xs → Writes d xs fits (Ok n) e
   done n e g l h q =
       let k : length xs ≤ length d = omega arith in
-      record { answer = simp (g, le-ltb _ _ k) (ap Written (sym l)); after = simp (g, le-ltb _ _ k) q }
+      record { answer = simp (g, le-ltb _ _ k) (ap Ok (sym l)); after = simp (g, le-ltb _ _ k) q }
 
 -- What was put where a test holds was written by that test, under any name for the octets.
-pub taken : (d xs ys : List ℕ) (fits : Bool) (r : Wrote) (e : List ℕ) → fits ≡ true → xs ≡ ys → Writes d xs true r e → Writes d ys fits r e
+pub taken : (d xs ys : List ℕ) (fits : Bool) (r : Result ℕ Unwritten) (e : List ℕ) → fits ≡ true → xs ≡ ys → Writes d xs true r e → Writes d ys fits r e
 taken d xs ys fits r e g x p = rw g (subst (λ zs. Writes d zs true r e) x p)
 
 -- The kind that a message is decides.
-pub writes_at : (protocol : Protocol) (d s : List ℕ) (head : ℕ) (m n : Message) (r : Wrote) (e : List ℕ) → m ≡ n
+pub writes_at : (protocol : Protocol) (d s : List ℕ) (head : ℕ) (m n : Message) (r : Result ℕ Unwritten) (e : List ℕ) → m ≡ n
     → Writes d (body_octets protocol head (content_of s n)) (body_fits protocol s n) r e
     → Writes d (body_octets protocol head (content_of s m)) (body_fits protocol s m) r e
 writes_at protocol d s head m n r e q p = rw q p
 
 -- Kinds of one shape share a writer: a type and a reference.
-pub writes_as : (protocol : Protocol) (d s xs : List ℕ) (head : ℕ) (m n : Message) (r : Wrote) (e : List ℕ) → m ≡ n
+pub writes_as : (protocol : Protocol) (d s xs : List ℕ) (head : ℕ) (m n : Message) (r : Result ℕ Unwritten) (e : List ℕ) → m ≡ n
     → xs ≡ body_octets protocol head (content_of s n) → Writes d xs (body_fits protocol s n) r e
     → Writes d (body_octets protocol head (content_of s m)) (body_fits protocol s m) r e
 writes_as protocol d s xs head m n r e q x p = writes_at protocol d s head m n r e q (subst (λ ys. Writes d ys (body_fits protocol s n) r e) x p)
@@ -88,7 +85,7 @@ module _ (protocol : Protocol) (s : List ℕ) (run : Run) (g : reject_fits proto
   unfolding reject_fits
   fits-four q = rw q at g
 
-  pub reject_at : (d xs : List ℕ) (head : ℕ) (p : Protocol) (r : Wrote) (e : List ℕ) → protocol ≡ p
+  pub reject_at : (d xs : List ℕ) (head : ℕ) (p : Protocol) (r : Result ℕ Unwritten) (e : List ℕ) → protocol ≡ p
       → xs ≡ body_octets p head (termination_reject (run_octets s run)) → Writes d xs true r e
       → Writes d (body_octets protocol head (termination_reject (run_octets s run))) (reject_fits protocol s run) r e
   reject_at d xs head p r e q x w = taken d xs _ (reject_fits protocol s run) r e g (x ∙ ap (λ y. body_octets y head (termination_reject (run_octets s run))) (sym q)) w
@@ -109,7 +106,7 @@ module _ (s : List ℕ) (head : ℕ) (run : Run) where
   pub four-count : (kind : ℕ) → run_fits s run 4 4 ≡ true → length (head ∷ kind ∷ run_octets s run) ≡ 2 + run.count
   four-count kind g = let l : length (run_octets s run) ≡ run.count = (good s run 4 4 g).full in omega arith
 
-  pub identified-count : run_fits s run 1 8 ≡ true → length (common_octets head (get_status (present (run_octets s run)))) ≡ 4 + run.count
+  pub identified-count : run_fits s run 1 8 ≡ true → length (common_octets head (get_status (Some (run_octets s run)))) ≡ 4 + run.count
   unfolding body_octets type_of table
   identified-count g =
       let k : length (run_octets s run ++ []) ≡ run.count = ap length (append-nil (run_octets s run)) ∙ (good s run 1 8 g).full in
@@ -121,7 +118,7 @@ module _ (s : List ℕ) (head : ℕ) (run : Run) where
   unfolding body_octets type_of table
   immediate-count key c r g = let l : length (run_octets s run) ≡ run.count = (good s run 1 8 g).full in simp length-append (omega arith)
 
-  pub status-count : (x y : Half) → status_fits s run x y ≡ true
+  pub status-count : (x y : Option ℕ) → status_fits s run x y ≡ true
       → length (common_octets head (status (run_octets s run) x y)) ≡ 3 + run.count + half_count x + half_count y
   unfolding body_octets type_of table
   status-count x y ok =
@@ -134,39 +131,39 @@ module _ (s : List ℕ) (head : ℕ) (run : Run) where
 module _ (d : List ℕ) (head : ℕ) (e : List ℕ) where
   pub connect-done : (r : Reference) (o : ℕ) → o < 2 → 7 ≤ length d
       → e ≡ sets d 0 (head ∷ 0x33 ∷ r.first ∷ r.second ∷ r.third ∷ r.fourth ∷ o ∷ [])
-      → Writes d (common_octets head (connect r o)) (ltb o 2) (Written 7) e
+      → Writes d (common_octets head (connect r o)) (ltb o 2) (Ok 7) e
   unfolding body_octets type_of table
   connect-done r o h room q =
       let z : o + 16 * 0 ≡ o = omega arith in done d (common_octets head (connect r o)) _ 7 e (lt-ltb _ _ h) refl room (rw z q)
 
   pub parameter_done : (a : ℕ) → a < 16 → 3 ≤ length d → e ≡ sets d 0 (head ∷ 0x3A ∷ a ∷ [])
-      → Writes d (common_octets head (set_parameter a)) (ltb a 16) (Written 3) e
+      → Writes d (common_octets head (set_parameter a)) (ltb a 16) (Ok 3) e
   unfolding body_octets type_of table
   parameter_done a h room q =
       let z : a + 16 * 0 ≡ a = omega arith in done d (common_octets head (set_parameter a)) _ 3 e (lt-ltb _ _ h) refl room (rw z q)
 
 module _ (d s : List ℕ) (head : ℕ) (run : Run) (e : List ℕ) where
   pub cause_done : (kind : ℕ) → run_fits s run 1 247 ≡ true → 3 + run.count ≤ length d → e ≡ sets d 0 (head ∷ kind ∷ run.count ∷ run_octets s run)
-      → Writes d (head ∷ kind ∷ cause_octets s run) true (Written (3 + run.count)) e
+      → Writes d (head ∷ kind ∷ cause_octets s run) true (Ok (3 + run.count)) e
   cause_done kind g room q =
       let l : length (run_octets s run) ≡ run.count = (good s run 1 247 g).full in
       done d (head ∷ kind ∷ cause_octets s run) _ (3 + run.count) e refl (cause_count s head run kind g) room (rw l q)
 
   pub four-done : (kind : ℕ) → run_fits s run 4 4 ≡ true → 2 + run.count ≤ length d → e ≡ sets d 0 (head ∷ kind ∷ run_octets s run)
-      → Writes d (head ∷ kind ∷ run_octets s run) true (Written (2 + run.count)) e
+      → Writes d (head ∷ kind ∷ run_octets s run) true (Ok (2 + run.count)) e
   four-done kind g room q = done d (head ∷ kind ∷ run_octets s run) _ (2 + run.count) e refl (four-count s head run kind g) room q
 
   pub identified-done : run_fits s run 1 8 ≡ true → 4 + run.count ≤ length d → e ≡ sets d 0 (head ∷ 0x39 ∷ 0x17 ∷ run.count ∷ run_octets s run)
-      → Writes d (common_octets head (get_status (present (run_octets s run)))) (run_fits s run 1 8) (Written (4 + run.count)) e
+      → Writes d (common_octets head (get_status (Some (run_octets s run)))) (run_fits s run 1 8) (Ok (4 + run.count)) e
   unfolding body_octets type_of table
   identified-done g room q =
       let l : length (run_octets s run) ≡ run.count = (good s run 1 8 g).full in
-      done d (common_octets head (get_status (present (run_octets s run)))) _ (4 + run.count) e g (identified-count s head run g) room (rw (append-nil, l) q)
+      done d (common_octets head (get_status (Some (run_octets s run)))) _ (4 + run.count) e g (identified-count s head run g) room (rw (append-nil, l) q)
 
   pub immediate-done : (key : ℕ) (c : Classmark) (r : Reference) (f : List ℕ) → key < 8 → run_fits s run 1 8 ≡ true → 12 + run.count ≤ length d
       → e ≡ sets d 0 (head ∷ 0x31 ∷ (16 * key) ∷ 3 ∷ c.first ∷ c.second ∷ c.third ∷ run.count ∷ run_octets s run)
       → f ≡ sets e (8 + run.count) (reference_octets r)
-      → Writes d (common_octets head (immediate_setup key c (run_octets s run) r)) (ltb key 8 && run_fits s run 1 8) (Written (12 + run.count)) f
+      → Writes d (common_octets head (immediate_setup key c (run_octets s run) r)) (ltb key 8 && run_fits s run 1 8) (Ok (12 + run.count)) f
   unfolding body_octets type_of table
   immediate-done key c r f h g room p q =
       let l : length (run_octets s run) ≡ run.count = (good s run 1 8 g).full in
@@ -177,18 +174,18 @@ module _ (d s : List ℕ) (head : ℕ) (run : Run) (e : List ℕ) where
       (sets_then d e f (head ∷ 0x31 ∷ (16 * key) ∷ 3 ∷ c.first ∷ c.second ∷ c.third ∷ run.count ∷ run_octets s run) (reference_octets r) (8 + run.count)
       (omega arith) p q))
 
-pub get_status-bare : (d s : List ℕ) (head : ℕ) (identity : Identity) → identity ≡ Anonymous → 2 ≤ length d
-    → Writes d (common_octets head (content_of s (GetStatus identity))) (common_fits s (GetStatus identity)) (Written 2) (set (set d 0 head) 1 0x39)
+pub get_status-bare : (d s : List ℕ) (head : ℕ) (identity : Option Run) → identity ≡ None → 2 ≤ length d
+    → Writes d (common_octets head (content_of s (GetStatus identity))) (common_fits s (GetStatus identity)) (Ok 2) (set (set d 0 head) 1 0x39)
 unfolding body_octets type_of table
 get_status-bare d s head identity q room = rw q (done d (head ∷ 0x39 ∷ []) true 2 (set (set d 0 head) 1 0x39) refl refl room refl)
 
-pub get_status-short : (d s : List ℕ) (head : ℕ) (identity : Identity) → identity ≡ Anonymous → length d < 2
-    → Writes d (common_octets head (content_of s (GetStatus identity))) (common_fits s (GetStatus identity)) ShortBuffer d
+pub get_status-short : (d s : List ℕ) (head : ℕ) (identity : Option Run) → identity ≡ None → length d < 2
+    → Writes d (common_octets head (content_of s (GetStatus identity))) (common_fits s (GetStatus identity)) (Err ShortBuffer) d
 unfolding body_octets type_of table
 get_status-short d s head identity q room = rw q (no_room d (head ∷ 0x39 ∷ []) true 2 refl refl room)
 
-pub get_status-named : (d s : List ℕ) (head : ℕ) (identity : Identity) (run : Run) (r : Wrote) (e : List ℕ) → identity ≡ Named run
-    → Writes d (common_octets head (content_of s (GetStatus (Named run)))) (common_fits s (GetStatus (Named run))) r e
+pub get_status-named : (d s : List ℕ) (head : ℕ) (identity : Option Run) (run : Run) (r : Result ℕ Unwritten) (e : List ℕ) → identity ≡ Some run
+    → Writes d (common_octets head (content_of s (GetStatus (Some run)))) (common_fits s (GetStatus (Some run))) r e
     → Writes d (common_octets head (content_of s (GetStatus identity))) (common_fits s (GetStatus identity)) r e
 get_status-named d s head identity run r e q p = rw q p
 
@@ -202,19 +199,19 @@ pub immediate-run : (key : ℕ) (b : Bool) → b ≡ false → ltb key 8 && b �
 immediate-run key b h = simp (h, and-false)
 
 -- A half octet that is absent, and one that is there.
-pub put_none : (d : List ℕ) (at identifier : ℕ) (half : Half) → half ≡ Absent
+pub put_none : (d : List ℕ) (at identifier : ℕ) (half : Option ℕ) → half ≡ None
     → (at ≡ at + half_count half) × (d ≡ sets d at (half_octets identifier half))
 put_none d at identifier half e = rw e (omega arith, refl)
 
-pub put_one : (d : List ℕ) (at identifier value : ℕ) (half : Half) → half ≡ Present value
+pub put_one : (d : List ℕ) (at identifier value : ℕ) (half : Option ℕ) → half ≡ Some value
     → (at + 1 ≡ at + half_count half) × (set d at (16 * identifier + value) ≡ sets d at (half_octets identifier half))
 put_one d at identifier value half e = rw e (refl, refl)
 
-pub status-done : (d s : List ℕ) (head : ℕ) (run : Run) (x y : Half) (e f g : List ℕ) (m n : ℕ) → status_fits s run x y ≡ true
+pub status-done : (d s : List ℕ) (head : ℕ) (run : Run) (x y : Option ℕ) (e f g : List ℕ) (m n : ℕ) → status_fits s run x y ≡ true
     → 3 + run.count + half_count x + half_count y ≤ length d → e ≡ sets d 0 (head ∷ 0x38 ∷ run.count ∷ run_octets s run)
     → m ≡ 3 + run.count + half_count x → f ≡ sets e (3 + run.count) (half_octets 0xA x)
     → n ≡ m + half_count y → g ≡ sets f m (half_octets 0xB y)
-    → Writes d (common_octets head (status (run_octets s run) x y)) (status_fits s run x y) (Written n) g
+    → Writes d (common_octets head (status (run_octets s run) x y)) (status_fits s run x y) (Ok n) g
 unfolding body_octets type_of table
 status-done d s head run x y e f g m n ok room p a q b r =
     let l : length (run_octets s run) ≡ run.count = (good s run 1 247 (fine s run x y ok).run).full in

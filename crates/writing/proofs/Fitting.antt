@@ -13,8 +13,8 @@ use Rattle.octets.proofs.Stores.{part_length}
 use Rattle.octets.specs.declared.Run.{Run}
 use Rattle.octets.specs.declared.Reference.{Reference}
 use Rattle.message.specs.declared.Classmark.{Classmark}
-use Rattle.message.specs.declared.Identity.TheVariants.{Absent as Anonymous, Present as Named}
-use Rattle.message.specs.declared.Half.{Half}
+use Rattle.std.specs.Prelude.{Option, Some, None, Result}
+use Rattle.writing.specs.declared.Unwritten.{Unwritten}
 use Rattle.message.specs.declared.Message.{Message}
 use Rattle.message.specs.declared.Message.TheVariants.{
   Connect,
@@ -29,7 +29,6 @@ use Rattle.message.specs.declared.Message.TheVariants.{
 }
 use Rattle.message.specs.Content.{content_of, run_octets, lies, runs_lie, reference_octets}
 use Rattle.message.specs.Tables.{fits, table, type_of, written, rows_fit, count_fits}
-use Rattle.writing.specs.declared.Wrote.{Wrote}
 use Rattle.writing.specs.Writing.{writable, put_answer, put_leaves, write_answer, write_leaves}
 use Rattle.limits.specs.Limits.{run_fits, reject_fits, half_fits, half_count, status_fits}
 use Rattle.writing.specs.Bodies.{Writes, body_octets, body_fits, half_octets}
@@ -125,11 +124,11 @@ module _ (s : List ℕ) (f : Bool) (v : ℕ) (six : v ≤ 6) where
           ∙ whole_test _ _ _ _ (counts s run 1 247) e (le-leb v 6 six) (and-true _ ∙ count_lv (run_octets s run) run.count 247 l)
           (λ c. let h : run.count ≤ 247 = few s run 1 247 c in le-leb (suc (suc (suc (length (run_octets s run ++ []))))) 251 (omega arith))
 
-  identity-fits : (protocol : Protocol) (run : Run) → run_fits s run 1 8 ≡ writable protocol s f v (GetStatus (Named run))
+  identity-fits : (protocol : Protocol) (run : Run) → run_fits s run 1 8 ≡ writable protocol s f v (GetStatus (Some run))
   unfolding writable fits table written type_of
   identity-fits protocol run = go (lies s run) refl
     where
-      go : (t : Bool) → lies s run ≡ t → run_fits s run 1 8 ≡ writable protocol s f v (GetStatus (Named run))
+      go : (t : Bool) → lies s run ≡ t → run_fits s run 1 8 ≡ writable protocol s f v (GetStatus (Some run))
       go false e = no_test _ _ _ e (run_outside s run 1 8 e)
       go true e =
           let l : length (run_octets s run) ≡ run.count = full s run 1 8 e in
@@ -155,7 +154,7 @@ module _ (s : List ℕ) (f : Bool) (v : ℕ) (six : v ≤ 6) where
           let h : run.count ≤ 8 = few s run 1 8 (and_right (ltb key 8) _ q) in
           le-leb (suc (suc (suc (suc (suc (suc (suc (suc (length (run_octets s run ++ reference_octets r)))))))))) 251 (omega arith))
 
-  status-fits : (protocol : Protocol) (run : Run) (x y : Half) → status_fits s run x y ≡ writable protocol s f v (Status run x y)
+  status-fits : (protocol : Protocol) (run : Run) (x y : Option ℕ) → status_fits s run x y ≡ writable protocol s f v (Status run x y)
   unfolding writable fits table written type_of status_fits
   status-fits protocol run x y = go (lies s run) refl
     where
@@ -192,8 +191,8 @@ module _ (s : List ℕ) (f : Bool) (v : ℕ) (six : v ≤ 6) where
   pub fits-same : (protocol : Protocol) (m : Message) → body_fits protocol s m ≡ writable protocol s f v m
   unfolding writable fits table written type_of
   fits-same protocol (Connect r o) = simp (le-leb v 6 six, and-true)
-  fits-same protocol (GetStatus Anonymous) = simp (le-leb v 6 six)
-  fits-same protocol (GetStatus (Named run)) = identity-fits protocol run
+  fits-same protocol (GetStatus None) = simp (le-leb v 6 six)
+  fits-same protocol (GetStatus (Some run)) = identity-fits protocol run
   fits-same protocol (ImmediateSetup key c run r) = immediate-fits protocol key c run r
   fits-same protocol (SetParameter a) = simp (le-leb v 6 six, and-true)
   fits-same protocol (Setup r) = simp (le-leb v 6 six)
@@ -203,7 +202,7 @@ module _ (s : List ℕ) (f : Bool) (v : ℕ) (six : v ≤ 6) where
   fits-same protocol (TerminationRequest r) = simp (le-leb v 6 six)
 
 -- What a kind's writer meets, `put` meets, where the transaction value is at most 6.
-pub puts_whole : (protocol : Protocol) (d s : List ℕ) (head : ℕ) (f : Bool) (v : ℕ) (m : Message) (r : Wrote) (e : List ℕ) → v ≤ 6
+pub puts_whole : (protocol : Protocol) (d s : List ℕ) (head : ℕ) (f : Bool) (v : ℕ) (m : Message) (r : Result ℕ Unwritten) (e : List ℕ) → v ≤ 6
     → head ≡ head_of protocol f v → Writes d (body_octets protocol head (content_of s m)) (body_fits protocol s m) r e
     → (r ≡ put_answer protocol d s f v m) × (e ≡ put_leaves protocol d s f v m)
 unfolding put_answer put_leaves written body_octets
@@ -232,7 +231,7 @@ module _ (protocol : Protocol) (d s : List ℕ) (f : Bool) (v : ℕ) (m : Messag
           let k : length (written protocol f v (content_of s m)) ≤ length d = omega arith in
           rw (e, le-ltb _ _ room, le-ltb _ _ k) (refl, refl)
 
-  pub written_put : (r : Wrote) (e : List ℕ) → (r ≡ put_answer protocol d s f v m) × (e ≡ put_leaves protocol d s f v m)
+  pub written_put : (r : Result ℕ Unwritten) (e : List ℕ) → (r ≡ put_answer protocol d s f v m) × (e ≡ put_leaves protocol d s f v m)
       → (r ≡ write_answer protocol d s f v m) × (e ≡ write_leaves protocol d s f v m)
   written_put r e p = (p.0 ∙ same-written.0, p.1 ∙ same-written.1)
 

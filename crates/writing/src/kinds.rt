@@ -1,6 +1,6 @@
 // What stands behind a message's first octet, written kind by kind. Each answers for its own fields and its own room, and writes nothing where one is out of
 // range or the buffer is short.
-ghost use Rattle.std.specs.Prelude.{◌≡◌, true, ◌∷◌, [], ◌+◌, ◌≤◌, ◌<◌, length};
+ghost use Rattle.std.specs.Prelude.{◌≡◌, true, ◌∷◌, [], ◌+◌, ◌≤◌, ◌<◌, length, Some};
 ghost use Rattle.std.proofs.lemmas.List.Edits.{sets};
 ghost use Rattle.octets.specs.declared.Run.{Run};
 ghost use Rattle.message.specs.declared.Message.{Message};
@@ -8,11 +8,11 @@ ghost use Rattle.message.specs.Content.{content_of, run_octets, reference_octets
 ghost use Rattle.limits.specs.Limits.{run_fits, half_fits, half_count};
 ghost use Rattle.writing.specs.Bodies.{Writes, cause_octets, body_octets, body_fits, common_octets, common_fits, half_octets};
 
-use crate::Wrote;
+use crate::Unwritten;
 use codes::message_type;
 use codes::protocol::Protocol;
 use limits::{cause_fits, half_count, identity_fits, reject_fits, status_fits};
-use message::{Classmark, Half, Identity, Message};
+use message::{Classmark, Message};
 use octets::{Reference, Run, copy_to};
 
 // The four octets of a reference, to a place.
@@ -27,13 +27,13 @@ fn put_reference(buffer: &mut [u8], at: usize, reference: Reference)
 }
 
 // An optional half octet behind its identifier, to a place; answers the place behind it.
-fn put_half(buffer: &mut [u8], at: usize, identifier: u8, half: Half) -> usize
+fn put_half(buffer: &mut [u8], at: usize, identifier: u8, half: Option<u8>) -> usize
     requires { (at + half_count half ≤ length buffer.old) × (identifier < 16) × (half_fits half ≡ true) }
     ensures { (result ≡ at + half_count half) × (buffer.new ≡ sets buffer.old at (half_octets identifier half)) }
 {
     match half {
-        Half::Absent => at,
-        Half::Present(value) => {
+        None => at,
+        Some(value) => {
             buffer[at] = 16 * identifier + value;
             at + 1
         }
@@ -41,14 +41,19 @@ fn put_half(buffer: &mut [u8], at: usize, identifier: u8, half: Half) -> usize
 }
 
 // Table 8.1.
-fn write_connect(buffer: &mut [u8], head: u8, reference: Reference, originator: u8) -> Wrote
+fn write_connect(
+    buffer: &mut [u8],
+    head: u8,
+    reference: Reference,
+    originator: u8,
+) -> Result<usize, Unwritten>
     ensures { Writes buffer.old (common_octets head (content_of [] (Message.Connect reference originator))) (common_fits [] (Message.Connect reference originator)) result buffer.new }
 {
     if 2 <= originator {
-        return Wrote::OutOfRange;
+        return Err(Unwritten::OutOfRange);
     }
     if buffer.len() < 7 {
-        return Wrote::ShortBuffer;
+        return Err(Unwritten::ShortBuffer);
     }
     buffer[0] = head;
     buffer[1] = message_type::CONNECT;
@@ -57,44 +62,54 @@ fn write_connect(buffer: &mut [u8], head: u8, reference: Reference, originator: 
     buffer[4] = reference.third;
     buffer[5] = reference.fourth;
     buffer[6] = originator;
-    Wrote::Written(7)
+    Ok(7)
 }
 
 // Table 8.2.
-fn write_get_status(buffer: &mut [u8], source: &[u8], head: u8, identity: Identity) -> Wrote
+fn write_get_status(
+    buffer: &mut [u8],
+    source: &[u8],
+    head: u8,
+    identity: Option<Run>,
+) -> Result<usize, Unwritten>
     ensures { Writes buffer.old (common_octets head (content_of source.now (Message.GetStatus identity))) (common_fits source.now (Message.GetStatus identity)) result buffer.new }
 {
     match identity {
-        Identity::Absent => {
+        None => {
             if buffer.len() < 2 {
-                return Wrote::ShortBuffer;
+                return Err(Unwritten::ShortBuffer);
             }
             buffer[0] = head;
             buffer[1] = message_type::GET_STATUS;
-            Wrote::Written(2)
+            Ok(2)
         }
-        Identity::Present(run) => write_identified(buffer, source, head, run),
+        Some(run) => write_identified(buffer, source, head, run),
     }
 }
 
 // Table 8.2 with a mobile identity.
-fn write_identified(buffer: &mut [u8], source: &[u8], head: u8, identity: Run) -> Wrote
-    ensures { Writes buffer.old (common_octets head (content_of source.now (Message.GetStatus (Identity.Present identity)))) (common_fits source.now (Message.GetStatus (Identity.Present identity))) result buffer.new }
+fn write_identified(
+    buffer: &mut [u8],
+    source: &[u8],
+    head: u8,
+    identity: Run,
+) -> Result<usize, Unwritten>
+    ensures { Writes buffer.old (common_octets head (content_of source.now (Message.GetStatus (Some identity)))) (common_fits source.now (Message.GetStatus (Some identity))) result buffer.new }
 {
     if !identity_fits(source, identity) {
-        return Wrote::OutOfRange;
+        return Err(Unwritten::OutOfRange);
     }
     let start = identity.start;
     let count = identity.count;
     if buffer.len() < 4 + count {
-        return Wrote::ShortBuffer;
+        return Err(Unwritten::ShortBuffer);
     }
     buffer[0] = head;
     buffer[1] = message_type::GET_STATUS;
     buffer[2] = 0x17;
     buffer[3] = count as u8;
     copy_to(buffer, 4, source, start, count);
-    Wrote::Written(4 + count)
+    Ok(4 + count)
 }
 
 // Table 8.3.
@@ -106,19 +121,19 @@ fn write_immediate_setup(
     classmark: Classmark,
     identity: Run,
     reference: Reference,
-) -> Wrote
+) -> Result<usize, Unwritten>
     ensures { Writes buffer.old (common_octets head (content_of source.now (Message.ImmediateSetup key classmark identity reference))) (common_fits source.now (Message.ImmediateSetup key classmark identity reference)) result buffer.new }
 {
     if 8 <= key {
-        return Wrote::OutOfRange;
+        return Err(Unwritten::OutOfRange);
     }
     if !identity_fits(source, identity) {
-        return Wrote::OutOfRange;
+        return Err(Unwritten::OutOfRange);
     }
     let start = identity.start;
     let count = identity.count;
     if buffer.len() < 12 + count {
-        return Wrote::ShortBuffer;
+        return Err(Unwritten::ShortBuffer);
     }
     buffer[0] = head;
     buffer[1] = message_type::IMMEDIATE_SETUP;
@@ -130,31 +145,36 @@ fn write_immediate_setup(
     buffer[7] = count as u8;
     copy_to(buffer, 8, source, start, count);
     put_reference(buffer, 8 + count, reference);
-    Wrote::Written(12 + count)
+    Ok(12 + count)
 }
 
 // Table 8.4.
-fn write_set_parameter(buffer: &mut [u8], head: u8, attributes: u8) -> Wrote
+fn write_set_parameter(buffer: &mut [u8], head: u8, attributes: u8) -> Result<usize, Unwritten>
     ensures { Writes buffer.old (common_octets head (content_of [] (Message.SetParameter attributes))) (common_fits [] (Message.SetParameter attributes)) result buffer.new }
 {
     if 16 <= attributes {
-        return Wrote::OutOfRange;
+        return Err(Unwritten::OutOfRange);
     }
     if buffer.len() < 3 {
-        return Wrote::ShortBuffer;
+        return Err(Unwritten::ShortBuffer);
     }
     buffer[0] = head;
     buffer[1] = message_type::SET_PARAMETER;
     buffer[2] = attributes;
-    Wrote::Written(3)
+    Ok(3)
 }
 
 // Tables 8.5 and 8.9: a type and a reference.
-fn write_reference(buffer: &mut [u8], head: u8, kind: u8, reference: Reference) -> Wrote
+fn write_reference(
+    buffer: &mut [u8],
+    head: u8,
+    kind: u8,
+    reference: Reference,
+) -> Result<usize, Unwritten>
     ensures { Writes buffer.old (head ∷ kind ∷ reference_octets reference) true result buffer.new }
 {
     if buffer.len() < 6 {
-        return Wrote::ShortBuffer;
+        return Err(Unwritten::ShortBuffer);
     }
     buffer[0] = head;
     buffer[1] = kind;
@@ -162,58 +182,81 @@ fn write_reference(buffer: &mut [u8], head: u8, kind: u8, reference: Reference) 
     buffer[3] = reference.second;
     buffer[4] = reference.third;
     buffer[5] = reference.fourth;
-    Wrote::Written(6)
+    Ok(6)
 }
 
 // A type and a cause behind its length octet.
-fn put_counted(buffer: &mut [u8], source: &[u8], head: u8, kind: u8, cause: Run) -> Wrote
+fn put_counted(
+    buffer: &mut [u8],
+    source: &[u8],
+    head: u8,
+    kind: u8,
+    cause: Run,
+) -> Result<usize, Unwritten>
     requires { run_fits source.now cause 1 247 ≡ true }
     ensures { Writes buffer.old (head ∷ kind ∷ cause_octets source.now cause) true result buffer.new }
 {
     let start = cause.start;
     let count = cause.count;
     if buffer.len() < 3 + count {
-        return Wrote::ShortBuffer;
+        return Err(Unwritten::ShortBuffer);
     }
     buffer[0] = head;
     buffer[1] = kind;
     buffer[2] = count as u8;
     copy_to(buffer, 3, source, start, count);
-    Wrote::Written(3 + count)
+    Ok(3 + count)
 }
 
 // A type and the four octets of a cause.
-fn put_four(buffer: &mut [u8], source: &[u8], head: u8, kind: u8, cause: Run) -> Wrote
+fn put_four(
+    buffer: &mut [u8],
+    source: &[u8],
+    head: u8,
+    kind: u8,
+    cause: Run,
+) -> Result<usize, Unwritten>
     requires { run_fits source.now cause 4 4 ≡ true }
     ensures { Writes buffer.old (head ∷ kind ∷ run_octets source.now cause) true result buffer.new }
 {
     let start = cause.start;
     let count = cause.count;
     if buffer.len() < 2 + count {
-        return Wrote::ShortBuffer;
+        return Err(Unwritten::ShortBuffer);
     }
     buffer[0] = head;
     buffer[1] = kind;
     copy_to(buffer, 2, source, start, count);
-    Wrote::Written(2 + count)
+    Ok(2 + count)
 }
 
 // Table 8.7.
-fn write_termination(buffer: &mut [u8], source: &[u8], head: u8, cause: Run) -> Wrote
+fn write_termination(
+    buffer: &mut [u8],
+    source: &[u8],
+    head: u8,
+    cause: Run,
+) -> Result<usize, Unwritten>
     ensures { Writes buffer.old (common_octets head (content_of source.now (Message.Termination cause))) (common_fits source.now (Message.Termination cause)) result buffer.new }
 {
     if !cause_fits(source, cause) {
-        return Wrote::OutOfRange;
+        return Err(Unwritten::OutOfRange);
     }
     put_counted(buffer, source, head, message_type::TERMINATION, cause)
 }
 
 // Table 8.8.
-fn write_reject(protocol: Protocol, buffer: &mut [u8], source: &[u8], head: u8, cause: Run) -> Wrote
+fn write_reject(
+    protocol: Protocol,
+    buffer: &mut [u8],
+    source: &[u8],
+    head: u8,
+    cause: Run,
+) -> Result<usize, Unwritten>
     ensures { Writes buffer.old (body_octets protocol head (content_of source.now (Message.TerminationReject cause))) (body_fits protocol source.now (Message.TerminationReject cause)) result buffer.new }
 {
     if !reject_fits(protocol, source, cause) {
-        return Wrote::OutOfRange;
+        return Err(Unwritten::OutOfRange);
     }
     let kind = message_type::TERMINATION_REJECT;
     match protocol {
@@ -223,7 +266,7 @@ fn write_reject(protocol: Protocol, buffer: &mut [u8], source: &[u8], head: u8, 
 }
 
 // How many octets a STATUS takes, with a cause of `count`.
-fn status_count(count: usize, state: Half, attributes: Half) -> usize
+fn status_count(count: usize, state: Option<u8>, attributes: Option<u8>) -> usize
     requires { count ≤ 247 }
     ensures { result ≡ 3 + count + half_count state + half_count attributes }
 {
@@ -236,18 +279,18 @@ fn write_status(
     source: &[u8],
     head: u8,
     cause: Run,
-    state: Half,
-    attributes: Half,
-) -> Wrote
+    state: Option<u8>,
+    attributes: Option<u8>,
+) -> Result<usize, Unwritten>
     ensures { Writes buffer.old (common_octets head (content_of source.now (Message.Status cause state attributes))) (common_fits source.now (Message.Status cause state attributes)) result buffer.new }
 {
     if !status_fits(source, cause, state, attributes) {
-        return Wrote::OutOfRange;
+        return Err(Unwritten::OutOfRange);
     }
     let start = cause.start;
     let count = cause.count;
     if buffer.len() < status_count(count, state, attributes) {
-        return Wrote::ShortBuffer;
+        return Err(Unwritten::ShortBuffer);
     }
     buffer[0] = head;
     buffer[1] = message_type::STATUS;
@@ -255,7 +298,7 @@ fn write_status(
     copy_to(buffer, 3, source, start, count);
     let place = put_half(buffer, 3 + count, 0xa, state);
     let end = put_half(buffer, place, 0xb, attributes);
-    Wrote::Written(end)
+    Ok(end)
 }
 
 // The message behind its first octet, which is `head`.
@@ -265,7 +308,7 @@ pub(crate) fn write_body(
     source: &[u8],
     head: u8,
     message: Message,
-) -> Wrote
+) -> Result<usize, Unwritten>
     ensures { Writes buffer.old (body_octets protocol head (content_of source.now message)) (body_fits protocol source.now message) result buffer.new }
 {
     match message {

@@ -10,11 +10,9 @@ ghost use Rattle.writing.specs.Writing.{put_answer, put_leaves, write_answer, wr
 use codes::protocol::{Protocol, discriminator};
 use message::Message;
 
-// What writing comes to; the number that document 01 gives each is `written_number`.
-#[derive(Clone, Copy)]
-pub enum Wrote {
-    // Written, with so many octets.
-    Written(usize),
+// Why a message is not written; the number that document 01 gives each is in `written_number`.
+#[derive(Clone, Copy, Debug, PartialEq, Eq)]
+pub enum Unwritten {
     // The lent buffer has under 255 octets, or, where a message is put behind another, no room for it.
     ShortBuffer,
     // A field beyond its width or length, a run outside the lent octets, transaction value 7 or more, or over 251 octets.
@@ -41,12 +39,12 @@ pub fn put(
     flag: bool,
     value: u8,
     message: Message,
-) -> Wrote
+) -> Result<usize, Unwritten>
     ensures value { result ≡ put_answer protocol part.old source.now flag value message }
     ensures part_after { part.new ≡ put_leaves protocol part.old source.now flag value message }
 {
     if 6 < value {
-        return Wrote::OutOfRange;
+        return Err(Unwritten::OutOfRange);
     }
     let head = head_of(protocol, flag, value);
     kinds::write_body(protocol, part, source, head, message)
@@ -60,12 +58,12 @@ pub fn write(
     flag: bool,
     value: u8,
     message: Message,
-) -> Wrote
+) -> Result<usize, Unwritten>
     ensures value { result ≡ write_answer protocol buffer.old source.now flag value message }
     ensures buffer_after { buffer.new ≡ write_leaves protocol buffer.old source.now flag value message }
 {
     if buffer.len() < 255 {
-        return Wrote::ShortBuffer;
+        return Err(Unwritten::ShortBuffer);
     }
     put(protocol, buffer, source, flag, value, message)
 }

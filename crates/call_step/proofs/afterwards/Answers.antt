@@ -1,12 +1,13 @@
 -- `afterwards` meets its contract: entering U0 clears, and else each part is the definition's.
-use Rattle.call.specs.Step.{afterwards}
-use borrow.Author.Tests.{eq-eqb, ne_eqb}
 use mathlib.Core.Path.{sym, ◌∙◌}
+use Rattle.codes.specs.declared.state.State.TheVariants.{U0}
+use Rattle.context.proofs.States.{same_asked}
+use Rattle.call.specs.Step.{afterwards}
 use Rattle.call_step.proofs.afterwards.Goals as goal
 
-pub returns-then-number-eq0 : goal.returns-then-number-eq0
+pub returns-then-eq : goal.returns-then-eq
 unfolding afterwards
-returns-then-number-eq0 c = rw (c.cleared.ensures, eq-eqb _ _ (sym c.state_number-number.ensures ∙ c.if-number-eq0.true))
+returns-then-eq c = rw (c.cleared.ensures, sym (same_asked c.args.taken.next U0) ∙ sym c.eq.ensures ∙ c.if-eq.true)
 
 pub returns : goal.returns
 unfolding afterwards
@@ -18,5 +19,5 @@ returns c =
       c.value_after-value.ensures,
       c.timers_after-timers.ensures,
       c.entered-parameters.ensures,
-      ne_eqb _ _ (λ e. c.if-number-eq0.false (c.state_number-number.ensures ∙ e)),
+      sym (same_asked c.args.taken.next U0) ∙ sym c.eq.ensures ∙ c.if-eq.false,
     )

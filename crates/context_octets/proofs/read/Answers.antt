@@ -7,13 +7,13 @@ pub returns-then-not-is_kept : goal.returns-then-not-is_kept
 returns-then-not-is_kept c = not-kept c.args.octets.now (sym c.is_kept.ensures ∙ c.if-not-is_kept.true)
 
 -- They are kept, and their first octet is a state's number.
-pub returns-in-Is : goal.returns-in-Is
-returns-in-Is c =
+pub returns : goal.returns
+returns c =
     is_context c.args.octets.now _ _ (sym c.is_kept.ensures ∙ c.if-not-is_kept.false)
-    (sym c.state_at.ensures ∙ c.in-Is.is) c.with_state.ensures
+    (sym c.in_ok-state.ensures) c.with_state.ensures
 
 -- It is none.
-pub returns-in-NoState : goal.returns-in-NoState
-returns-in-NoState c =
-    no_state c.args.octets.now (sym c.is_kept.ensures ∙ c.if-not-is_kept.false)
-    (sym c.state_at.ensures ∙ c.in-NoState.is)
+pub returns-in_err-state : goal.returns-in_err-state
+returns-in_err-state c =
+    c.from_residual.ensures
+    ∙ no_state c.args.octets.now (sym c.is_kept.ensures ∙ c.if-not-is_kept.false) (sym c.in_err-state.ensures)

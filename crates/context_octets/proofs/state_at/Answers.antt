@@ -1,6 +1,6 @@
 -- `state_at` meets its contract: each arm is a row, and the rest has no row.
 use Rattle.octets.proofs.Rows.{no_row}
-use Rattle.context_octets.specs.declared.Numbered.TheVariants.{NoState}
+use Rattle.std.specs.Prelude.{None}
 use Rattle.context_octets.specs.Octets.{state_at, numbered}
 use Rattle.context_octets.proofs.state_at.Goals as goal
 
@@ -62,4 +62,4 @@ returns-in-13 c = rw c.in-13.is
 
 pub returns-in_default : goal.returns-in_default
 unfolding state_at
-returns-in_default c = no_row c.args.number NoState numbered c.in_default.in_default-own.rest
+returns-in_default c = no_row c.args.number None numbered c.in_default.in_default-own.rest

@@ -7,6 +7,6 @@ pub returns-then-low-octet : goal.returns-then-low-octet
 unfolding within
 returns-then-low-octet c = simp (le-leb _ _ c.if-low-octet.true)
 
-pub returns : goal.returns
+pub returns-else-low-octet : goal.returns-else-low-octet
 unfolding within
-returns c = simp (lt-leb _ _ c.if-low-octet.false)
+returns-else-low-octet c = simp (lt-leb _ _ c.if-low-octet.false)

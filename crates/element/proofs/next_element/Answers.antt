@@ -1,5 +1,4 @@
 -- `next_element` meets its contract: each of its four ways is one of the definition's.
-use borrow.Author.Rules.{rules}
 use borrow.Author.Tests.{le-leb, lt-leb}
 use Prim.Native.Nat.{◌+◌, ◌<◌, ◌≤◌}
 use native.Mathlib.Omega.{arith}
@@ -11,27 +10,24 @@ pub returns-then-octets-at-ge128 : goal.returns-then-octets-at-ge128
 unfolding next_element
 returns-then-octets-at-ge128 c = simp (le-leb _ _ c.if-octets-at-ge128.true)
 
-pub returns-then-octets-at-lt2 : goal.returns-then-octets-at-lt2
+pub returns-in_err-count : goal.returns-in_err-count
 unfolding next_element
-returns-then-octets-at-lt2 c =
+returns-in_err-count c =
     let a = c.args in
-    let past : length a.octets.now < a.at + 2 + get_or a.octets.now (a.at + 1) 0 = omega arith in
-    simp (lt-leb _ _ c.if-octets-at-ge128.false, lt-leb _ _ past)
-
-pub overflow_cast-count : goal.overflow_cast-count
-unfolding next_element
-overflow_cast-count c = omega (arith, c.shared_slice_known-2-1.given (c.args.at + 1))
+    let past : length a.octets.now < a.at + 2 + get_or a.octets.now (a.at + 1) 0 = omega (arith, c.in_err-count.ensures.lookup) in
+    simp (c.from_residual.ensures, lt-leb _ _ c.if-octets-at-ge128.false, lt-leb _ _ past)
 
 pub returns-then-octets-at : goal.returns-then-octets-at
 unfolding next_element
 returns-then-octets-at c =
     let a = c.args in
-    let past : length a.octets.now < a.at + 2 + get_or a.octets.now (a.at + 1) 0 = omega arith in
+    let past : length a.octets.now < a.at + 2 + get_or a.octets.now (a.at + 1) 0 = omega (arith, c.in_ok-count.ensures.lookup.3.1 0) in
     simp (lt-leb _ _ c.if-octets-at-ge128.false, lt-leb _ _ past)
 
 pub returns : goal.returns
 unfolding next_element
 returns c =
     let a = c.args in
-    let there : a.at + 2 + get_or a.octets.now (a.at + 1) 0 ≤ length a.octets.now = omega arith in
-    simp (lt-leb _ _ c.if-octets-at-ge128.false, le-leb _ _ there)
+    let number = c.in_ok-count.ensures.lookup.3.1 0 in
+    let there : a.at + 2 + get_or a.octets.now (a.at + 1) 0 ≤ length a.octets.now = omega (arith, number, c.in_ok-count.ensures.lookup.3.0) in
+    simp (lt-leb _ _ c.if-octets-at-ge128.false, le-leb _ _ there, number)

@@ -1,10 +1,8 @@
 -- `seek` meets its contract. Before each turn the answer from here on is the whole answer; each turn goes further on.
 use Prim.Native.Nat.{◌-◌}
-use borrow.Author.Rules.{rules}
-use mathlib.Core.Path.{sym, ◌∙◌}
 use lib.ListN.{length}
 use Rattle.element.specs.Elements.{element_from}
-use Rattle.element.proofs.Elements.{Seeks, seeks, seek_end, seek_here, seek_cut, seek_on, next_falls}
+use Rattle.element.proofs.Elements.{Seeks}
 use Rattle.element.proofs.seek.Given as goal
 
 abbrev pub invariant-loop-at : goal.invariant-loop-at

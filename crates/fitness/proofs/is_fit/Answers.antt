@@ -1,10 +1,11 @@
 -- `is_fit` meets its contract: each test is the definition's, in its order.
-use borrow.Author.Tests.{le-leb, lt-leb, eq-eqb, ne_eqb}
+use borrow.Author.Tests.{le-leb, lt-leb}
 use mathlib.Core.Path.{◌≡◌, sym, ◌∙◌}
 use mathlib.Core.Bool.{true, false}
 use lib.Dec.{leb}
 use Rattle.codes.specs.declared.state.State.TheVariants.{U0}
 use Rattle.context.specs.States.{same}
+use Rattle.context.proofs.States.{other_state}
 use Rattle.fitness.specs.Tables.{state_fits}
 use Rattle.fitness.proofs.Consistent.{state-by_two}
 use Rattle.fitness.proofs.Tested.{inconsistent, value_over, in_u0, elsewhere}
@@ -22,22 +23,20 @@ returns-then-context-gt6 c =
     state-by_two _ (c.args.context).state (c.args.context).parameters ∙ (sym c.state_fits.ensures ∙ c.if-not-state_fits.false) in
     value_over _ (c.args.context) (right-parameters) (lt-leb _ _ c.if-context-gt6.true)
 
-pub returns-then-state_number-eq0 : goal.returns-then-state_number-eq0
-returns-then-state_number-eq0 c =
+pub returns-in-U0 : goal.returns-in-U0
+returns-in-U0 c =
     let right-parameters : state_fits (c.args.table) (c.args.context).state (c.args.context).parameters ≡ true =
     state-by_two _ (c.args.context).state (c.args.context).parameters ∙ (sym c.state_fits.ensures ∙ c.if-not-state_fits.false) in
     let small-value : leb (c.args.context).value 6 ≡ true =
     le-leb _ _ c.if-context-gt6.false in
-    let is-u0 : same (c.args.context).state U0 ≡ true =
-    eq-eqb _ _ (sym c.state_number.ensures ∙ c.if-state_number-eq0.true) in
+    let is-u0 : same (c.args.context).state U0 ≡ true = rw c.in-U0.is in
     in_u0 _ (c.args.context) (right-parameters) (small-value) _ c.rest_fits.ensures (is-u0) _ c.is_cleared.ensures
 
-pub returns : goal.returns
-returns c =
+pub returns-in_default : goal.returns-in_default
+returns-in_default c =
     let right-parameters : state_fits (c.args.table) (c.args.context).state (c.args.context).parameters ≡ true =
     state-by_two _ (c.args.context).state (c.args.context).parameters ∙ (sym c.state_fits.ensures ∙ c.if-not-state_fits.false) in
     let small-value : leb (c.args.context).value 6 ≡ true =
     le-leb _ _ c.if-context-gt6.false in
-    let is-not-u0 : same (c.args.context).state U0 ≡ false =
-    ne_eqb _ _ (λ e. c.if-state_number-eq0.false (c.state_number.ensures ∙ e)) in
-    elsewhere _ (c.args.context) (right-parameters) (small-value) _ c.rest_fits-2.ensures (is-not-u0)
+    let is-not-u0 : same (c.args.context).state U0 ≡ false = other_state _ _ c.in_default.not-U0 in
+    elsewhere _ (c.args.context) (right-parameters) (small-value) _ c.rest_fits-in_default.ensures (is-not-u0)

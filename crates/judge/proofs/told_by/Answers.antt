@@ -10,8 +10,8 @@ returns-in_default c = rw c.in_default.is
 
 pub returns-then-not-tells_invitation : goal.returns-then-not-tells_invitation
 unfolding told_by invitation_told
-returns-then-not-tells_invitation c = rw (c.in-Of.is, sym c.tells_invitation.ensures ∙ c.if-not-tells_invitation.true)
+returns-then-not-tells_invitation c = rw (c.in-Some.is, sym c.tells_invitation.ensures ∙ c.if-not-tells_invitation.true)
 
 pub returns : goal.returns
 unfolding told_by invitation_told
-returns c = rw (c.in-Of.is, sym c.tells_invitation.ensures ∙ c.if-not-tells_invitation.false)
+returns c = rw (c.in-Some.is, sym c.tells_invitation.ensures ∙ c.if-not-tells_invitation.false)

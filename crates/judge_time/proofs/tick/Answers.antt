@@ -31,4 +31,4 @@ pub returns : goal.returns
 returns c =
     let on-time : astray c.args.clock.time c.args.clock.started ≡ false =
     sym c.is_astray.ensures ∙ c.if-is_astray.false in
-    one-runs _ _ _ _ _ (on-time) _ c.started_after-started.ensures c.if-before-eq0.false _ c.expired_timer.ensures _ c.while_running.ensures
+    one-runs _ _ _ _ _ (on-time) _ c.started_after-started.ensures c.if-before-eq0.false _ c.expired_number.ensures _ c.while_running.ensures

@@ -5,7 +5,7 @@ use Prim.Native.Nat.{◌%◌}
 use lib.ListN.{get_or}
 use Rattle.codes.specs.Protocol.{discriminator}
 use Rattle.message.specs.Reading.{read_message}
-use Rattle.message.proofs.Bodies.{head_good}
+use Rattle.message.proofs.Bodies.{passed, head_good}
 use Rattle.message.proofs.read.Goals as goal
 
 pub returns-then-octets-gt251 : goal.returns-then-octets-gt251
@@ -27,16 +27,15 @@ returns-then-kind-ge128 c =
     c.if-first-discriminator.false ∙ c.discriminator.ensures in
     simp (le-ltb _ _ c.if-octets-gt251.false, le-ltb _ _ c.if-octets-lt2.false, eq-eqb _ _ (ours), le-leb _ _ c.if-kind-ge128.true)
 
-pub returns-in-Is : goal.returns-in-Is
-unfolding read_message
-returns-in-Is c =
+pub returns-in_err-message : goal.returns-in_err-message
+returns-in_err-message c =
     let ours : let a = c.args in get_or a.octets.now 0 0 % 16 ≡ discriminator a.protocol =
     c.if-first-discriminator.false ∙ c.discriminator.ensures in
-    head_good _ c.args.octets.now _ c.if-octets-gt251.false c.if-octets-lt2.false (ours) c.if-kind-ge128.false (sym c.in-Is.is ∙ c.read_body.ensures)
+    passed _ _ c.from_residual.ensures.1
+    ∙ head_good _ c.args.octets.now _ c.if-octets-gt251.false c.if-octets-lt2.false (ours) c.if-kind-ge128.false c.in_err-message.ensures
 
-pub returns-in-Wrong : goal.returns-in-Wrong
-unfolding read_message
-returns-in-Wrong c =
+pub returns : goal.returns
+returns c =
     let ours : let a = c.args in get_or a.octets.now 0 0 % 16 ≡ discriminator a.protocol =
     c.if-first-discriminator.false ∙ c.discriminator.ensures in
-    head_good _ c.args.octets.now _ c.if-octets-gt251.false c.if-octets-lt2.false (ours) c.if-kind-ge128.false (sym c.in-Wrong.is ∙ c.read_body.ensures)
+    head_good _ c.args.octets.now _ c.if-octets-gt251.false c.if-octets-lt2.false (ours) c.if-kind-ge128.false c.in_ok-message.ensures

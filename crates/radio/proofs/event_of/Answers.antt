@@ -1,6 +1,6 @@
 -- `event_of` meets its contract: each arm is a row, and the numbers without an arm have none.
 use Rattle.octets.proofs.Rows.{no_row}
-use Rattle.radio.specs.declared.Told.TheVariants.{NoEvent}
+use Rattle.std.specs.Prelude.{None}
 use Rattle.radio.specs.Step.{events, event_of}
 use Rattle.radio.proofs.event_of.Goals as goal
 
@@ -102,4 +102,4 @@ returns-in-36 c = rw c.in-36.is
 
 pub returns-in_default : goal.returns-in_default
 unfolding event_of
-returns-in_default c = no_row c.args.number NoEvent (events c.args.value c.args.reference) c.in_default.in_default-own.rest
+returns-in_default c = no_row c.args.number None (events c.args.value c.args.reference) c.in_default.in_default-own.rest

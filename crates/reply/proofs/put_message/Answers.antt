@@ -5,9 +5,9 @@ use Rattle.reply.proofs.put_message.Goals as goal
 pub returns-clause-value : goal.returns-clause-value
 returns-clause-value c =
     let a = c.args in
-    put_count a.protocol a.reply.now a.source.now a.sender a.message _ _ c.write-wrote.ensures.value c.written_count.ensures
+    put_count a.protocol a.reply.now a.source.now a.sender a.message _ _ c.write.ensures.value c.unwrap_or.ensures
 
 pub returns-clause-reply_after : goal.returns-clause-reply_after
 returns-clause-reply_after c =
     let a = c.args in
-    put_leaves_lem a.protocol a.reply.now a.source.now a.sender a.message _ c.write-wrote.ensures.buffer_after
+    put_leaves_lem a.protocol a.reply.now a.source.now a.sender a.message _ c.write.ensures.buffer_after

@@ -7,7 +7,7 @@ use Rattle.settings.proofs.Walk.{left}
 use Rattle.settings.proofs.read_settings.Given as goal
 
 abbrev pub invariant-loop-at : goal.invariant-loop-at
-invariant-loop-at l = (l.at ≤ length l.file) × (l.number ≤ l.at + 1) × (left l.file l.at l.number l.seen ≡ settings_of l.file)
+invariant-loop-at l = (l.at ≤ length l.file) × (l.line ≤ l.at + 1) × (left l.file l.at l.line l.seen ≡ settings_of l.file)
 
 abbrev pub decreases-loop-at : goal.decreases-loop-at
 decreases-loop-at l = length l.file - l.at

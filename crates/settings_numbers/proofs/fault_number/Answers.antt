@@ -2,10 +2,6 @@
 use Rattle.settings_numbers.specs.Configuring.{fault_number}
 use Rattle.settings_numbers.proofs.fault_number.Goals as goal
 
-pub returns-in-Fine : goal.returns-in-Fine
-unfolding fault_number
-returns-in-Fine c = rw c.in-Fine.is
-
 pub returns-in-NoLineFeed : goal.returns-in-NoLineFeed
 unfolding fault_number
 returns-in-NoLineFeed c = rw c.in-NoLineFeed.is

@@ -1,25 +1,19 @@
--- `read_file` meets its contract: the file is refused, or taken.
-use Rattle.settings_numbers.proofs.Files.{file-refused, file-taken}
+-- `read_file` meets its contract: the file is taken, or refused.
+use Rattle.settings_numbers.specs.Configuring.{kept_octets, settings_shown}
 use Rattle.settings_numbers.proofs.read_file.Goals as goal
 
-pub returns-then-read-ne-TAKEN-clause-value : goal.returns-then-read-ne-TAKEN-clause-value
-returns-then-read-ne-TAKEN-clause-value c =
-    let start = c.args in
-    (file-refused start.file.now start.settings.now _ _ c.read_settings-read.ensures c.fault_number-fault.ensures c.if-read-ne-TAKEN.true).0
+pub returns-in-Ok-clause-value : goal.returns-in-Ok-clause-value
+unfolding settings_shown
+returns-in-Ok-clause-value c = rw (← c.in-Ok.ensures)
 
-pub returns-then-read-ne-TAKEN-clause-settings_after : goal.returns-then-read-ne-TAKEN-clause-settings_after
-returns-then-read-ne-TAKEN-clause-settings_after c =
-    let start = c.args in
-    (file-refused start.file.now start.settings.now _ _ c.read_settings-read.ensures c.fault_number-fault.ensures c.if-read-ne-TAKEN.true).1
+pub returns-in-Ok-clause-settings_after : goal.returns-in-Ok-clause-settings_after
+unfolding kept_octets
+returns-in-Ok-clause-settings_after c = rw (← c.in-Ok.ensures) c.write.ensures
 
-pub returns-clause-value : goal.returns-clause-value
-returns-clause-value c =
-    let start = c.args in
-    (file-taken start.file.now start.settings.now _ _ c.read_settings-read.ensures c.fault_number-fault.ensures
-    c.if-read-ne-TAKEN.false _ c.write.ensures).0
+pub returns-in-Err-clause-value : goal.returns-in-Err-clause-value
+unfolding settings_shown
+returns-in-Err-clause-value c = rw (← c.in-Err.ensures, c.fault_number.ensures)
 
-pub returns-clause-settings_after : goal.returns-clause-settings_after
-returns-clause-settings_after c =
-    let start = c.args in
-    (file-taken start.file.now start.settings.now _ _ c.read_settings-read.ensures c.fault_number-fault.ensures
-    c.if-read-ne-TAKEN.false _ c.write.ensures).1
+pub returns-in-Err-clause-settings_after : goal.returns-in-Err-clause-settings_after
+unfolding kept_octets
+returns-in-Err-clause-settings_after c = rw (← c.in-Err.ensures)

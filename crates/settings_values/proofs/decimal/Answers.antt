@@ -2,56 +2,37 @@
 use mathlib.Core.Path.{refl, sym, ◌∙◌}
 use native.Mathlib.Omega.{arith}
 use Rattle.settings_values.specs.Values.{decimal_of}
-use Rattle.settings_values.proofs.Digits.{decimal_next, decimal_bad, decimal_over, decimal_end}
+use Rattle.settings_values.proofs.Digits.{decimal_none, decimal_next, decimal_bad, decimal_over, decimal_end}
 use Rattle.settings_values.proofs.decimal.Goals as goal
 
-pub loop-place-init : goal.loop-place-init
+pub loop-byte-init : goal.loop-byte-init
 unfolding decimal_of
-loop-place-init c = (omega arith, omega arith, refl)
+loop-byte-init c = (omega arith, refl)
 
-pub bounds-text-place : goal.bounds-text-place
-bounds-text-place c = omega arith
+pub returns-in_err-digit : goal.returns-in_err-digit
+returns-in_err-digit c =
+    let l = c.loop-byte in
+    c.from_residual.ensures ∙ decimal_none _ l.number l.byte-index c.args.text.now (omega arith) c.in_err-digit.ensures ∙ l.invariant.1
 
 pub returns-then-digit-ge10 : goal.returns-then-digit-ge10
 returns-then-digit-ge10 c =
-    let l = c.loop-place in
-    decimal_bad _ l.number l.place c.args.text.now _ (omega arith)
-    c.digit_of-digit.ensures c.if-digit-ge10.true ∙ l.invariant.2
+    let l = c.loop-byte in
+    decimal_bad _ l.number l.byte-index c.args.text.now (omega arith) _ c.in_ok-digit.ensures c.if-digit-ge10.true ∙ l.invariant.1
 
-pub overflow_mul-number : goal.overflow_mul-number
-overflow_mul-number c = omega arith
+pub returns-then-greatest-number : goal.returns-then-greatest-number
+returns-then-greatest-number c =
+    let l = c.loop-byte in
+    decimal_over _ l.number l.byte-index c.args.text.now (omega arith) _ c.in_ok-digit.ensures c.if-digit-ge10.false c.if-greatest-number.true
+    ∙ l.invariant.1
 
-pub overflow_cast-number : goal.overflow_cast-number
-overflow_cast-number c = omega arith
-
-pub overflow_add-number : goal.overflow_add-number
-overflow_add-number c = omega arith
-
-pub returns-then-most-number : goal.returns-then-most-number
-returns-then-most-number c =
-    let l = c.loop-place in
-    decimal_over _ l.number l.place c.args.text.now _ (omega arith)
-    c.digit_of-digit.ensures c.if-digit-ge10.false c.if-most-number.true ∙ l.invariant.2
-
-pub overflow_step-place : goal.overflow_step-place
-overflow_step-place c = omega arith
-
-pub loop-place-smaller : goal.loop-place-smaller
-loop-place-smaller c = omega arith
-
-pub loop-place-preserved : goal.loop-place-preserved
-loop-place-preserved c =
-    let l = c.loop-place in (
+pub loop-byte-preserved : goal.loop-byte-preserved
+loop-byte-preserved c =
+    let l = c.loop-byte in (
       omega arith,
-      omega arith,
-      sym (decimal_next _ l.number l.place c.args.text.now _ (omega arith) c.digit_of-digit.ensures c.if-digit-ge10.false)
-          ∙ l.invariant.2,
+      sym (decimal_next _ l.number l.byte-index c.args.text.now (omega arith) _ c.in_ok-digit.ensures c.if-digit-ge10.false) ∙ l.invariant.1,
     )
-
-pub overflow_cast-result : goal.overflow_cast-result
-overflow_cast-result c = omega arith
 
 pub returns : goal.returns
 returns c =
-    let l = c.loop-place in
-    sym (decimal_end _ l.number l.place c.args.text.now (omega arith) (omega arith)) ∙ l.invariant.2
+    let l = c.loop-byte in
+    sym (decimal_end _ l.number l.byte-index c.args.text.now (omega arith) (omega arith)) ∙ l.invariant.1

@@ -1,5 +1,5 @@
 -- `settings_values::read_identity` meets its contract: each return is one law of `identity_read`.
-use borrow.Author.Tests.{not-true, not-false}
+use mathlib.Core.Path.{◌∙◌}
 use Rattle.settings_values.proofs.Values.{identity_under, identity_over, identity_odd, identity-bad, identity-good}
 use Rattle.settings_values.proofs.read_identity.Goals as goal
 
@@ -12,8 +12,8 @@ returns-then-text-gt16 c = identity_over c.args.text.now c.if-text-gt16.true
 pub returns-then-text-ne0 : goal.returns-then-text-ne0
 returns-then-text-ne0 c = identity_odd c.args.text.now c.if-text-ne0.true
 
-pub returns : goal.returns
-returns c = identity-good _ _ c.hex_octets-hex.ensures c.if-text-lt2.false c.if-text-gt16.false c.if-text-ne0.false (not-false _ c.if-not-hex.false)
+pub returns-in_err-octets : goal.returns-in_err-octets
+returns-in_err-octets c = c.from_residual.ensures ∙ identity-bad _ c.if-text-lt2.false c.if-text-gt16.false c.if-text-ne0.false c.in_err-octets.ensures
 
-pub returns-then-not-hex : goal.returns-then-not-hex
-returns-then-not-hex c = identity-bad _ _ c.hex_octets-hex.ensures c.if-text-lt2.false c.if-text-gt16.false c.if-text-ne0.false (not-true _ c.if-not-hex.true)
+pub returns : goal.returns
+returns c = identity-good _ c.if-text-lt2.false c.if-text-gt16.false c.if-text-ne0.false _ c.in_ok-octets.ensures

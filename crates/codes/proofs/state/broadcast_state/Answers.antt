@@ -1,6 +1,6 @@
 -- `broadcast_state` meets its contract: each arm is a row, and the rest has no row.
 use Rattle.octets.proofs.Rows.{no_row}
-use Rattle.codes.specs.declared.state.CallState.TheVariants.{Reserved}
+use Rattle.std.specs.Prelude.{None}
 use Rattle.codes.specs.CallStates.{broadcast_states}
 use Rattle.codes.proofs.state.broadcast_state.Goals as goal
 
@@ -29,4 +29,4 @@ pub returns-in-7 : goal.returns-in-7
 returns-in-7 c = rw c.in-7.is
 
 pub returns-in-8-to-255 : goal.returns-in-8-to-255
-returns-in-8-to-255 c = no_row c.args.code Reserved broadcast_states c.in-8-to-255.in-8-to-255-own.rest
+returns-in-8-to-255 c = no_row c.args.code None broadcast_states c.in-8-to-255.in-8-to-255-own.rest

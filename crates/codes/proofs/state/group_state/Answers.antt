@@ -1,6 +1,6 @@
 -- `group_state` meets its contract: each arm is a row, and the rest has no row.
 use Rattle.octets.proofs.Rows.{no_row}
-use Rattle.codes.specs.declared.state.CallState.TheVariants.{Reserved}
+use Rattle.std.specs.Prelude.{None}
 use Rattle.codes.specs.CallStates.{group_states}
 use Rattle.codes.proofs.state.group_state.Goals as goal
 
@@ -41,4 +41,4 @@ pub returns-in-11 : goal.returns-in-11
 returns-in-11 c = rw c.in-11.is
 
 pub returns-in-12-to-255 : goal.returns-in-12-to-255
-returns-in-12-to-255 c = no_row c.args.code Reserved group_states c.in-12-to-255.in-12-to-255-own.rest
+returns-in-12-to-255 c = no_row c.args.code None group_states c.in-12-to-255.in-12-to-255-own.rest

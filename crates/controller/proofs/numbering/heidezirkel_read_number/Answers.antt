@@ -3,10 +3,10 @@ use mathlib.Core.Path.{sym, ◌∙◌}
 use Rattle.controller.specs.Numbering.{number_shown}
 use Rattle.controller.proofs.numbering.heidezirkel_read_number.Goals as goal
 
-pub returns-in-Value : goal.returns-in-Value
+pub returns-in-Some : goal.returns-in-Some
 unfolding number_shown
-returns-in-Value c = rw (sym c.read_number.ensures ∙ c.in-Value.is)
+returns-in-Some c = rw (sym c.read_number.ensures ∙ c.in-Some.is)
 
-pub returns-in-Unreadable : goal.returns-in-Unreadable
+pub returns-in-None : goal.returns-in-None
 unfolding number_shown
-returns-in-Unreadable c = rw (sym c.read_number.ensures ∙ c.in-Unreadable.is)
+returns-in-None c = rw (sym c.read_number.ensures ∙ c.in-None.is)

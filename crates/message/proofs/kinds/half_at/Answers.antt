@@ -1,12 +1,12 @@
 -- `half_at` meets its contract.
-use mathlib.Core.Path.{sym, ap, ◌∙◌}
+use mathlib.Core.Path.{ap, ◌∙◌}
 use Rattle.message.specs.Reading.{half_found, half_at}
 use Rattle.message.proofs.kinds.half_at.Goals as goal
 
-pub returns-in-At : goal.returns-in-At
+pub returns-in_err-identifier : goal.returns-in_err-identifier
 unfolding half_at
-returns-in-At c = ap half_found (sym c.in-At.is ∙ c.seek.ensures)
+returns-in_err-identifier c = c.from_residual.ensures ∙ ap half_found c.in_err-identifier.ensures
 
-pub returns-in-Nothing : goal.returns-in-Nothing
+pub returns : goal.returns
 unfolding half_at
-returns-in-Nothing c = ap half_found (sym c.in-Nothing.is ∙ c.seek.ensures)
+returns c = ap half_found c.in_ok-identifier.ensures

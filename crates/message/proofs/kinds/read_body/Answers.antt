@@ -1,7 +1,7 @@
 -- `read_body` meets its contract: each arm is a row of table 9.1, and the rest has no row.
 use Rattle.octets.proofs.Rows.{no_row}
 use Rattle.message.specs.declared.Fault.TheVariants.{UnknownType}
-use Rattle.message.specs.declared.Body.TheVariants.{Wrong}
+use Rattle.std.specs.Prelude.{Err}
 use Rattle.message.specs.Reading.{kinds, body_of}
 use Rattle.message.proofs.kinds.read_body.Goals as goal
 
@@ -47,4 +47,4 @@ returns-in-0-to-48 c = rw c.in-0-to-48.in-0-to-48-own.keys10
 
 pub returns-in-0-to-48-2 : goal.returns-in-0-to-48-2
 unfolding body_of
-returns-in-0-to-48-2 c = no_row c.args.kind (Wrong UnknownType) (kinds c.args.protocol c.args.octets.now) c.in-0-to-48.in-0-to-48-own.rest.0
+returns-in-0-to-48-2 c = no_row c.args.kind (Err UnknownType) (kinds c.args.protocol c.args.octets.now) c.in-0-to-48.in-0-to-48-own.rest.0

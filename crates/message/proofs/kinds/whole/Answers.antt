@@ -6,8 +6,8 @@ use Rattle.message.proofs.kinds.whole.Goals as goal
 pub returns-then-octets-end : goal.returns-then-octets-end
 returns-then-octets-end c = whole-cut _ _ _ c.if-octets-end.true
 
-pub returns-in-At : goal.returns-in-At
-returns-in-At c = whole-there _ _ _ _ c.if-octets-end.false (sym c.in-At.is ∙ c.seek.ensures)
+pub returns-in-Some : goal.returns-in-Some
+returns-in-Some c = whole-there _ _ _ _ c.if-octets-end.false (sym c.in-Some.is ∙ c.seek.ensures)
 
-pub returns-in-Nothing : goal.returns-in-Nothing
-returns-in-Nothing c = whole-there _ _ _ _ c.if-octets-end.false (sym c.in-Nothing.is ∙ c.seek.ensures)
+pub returns-in-None : goal.returns-in-None
+returns-in-None c = whole-there _ _ _ _ c.if-octets-end.false (sym c.in-None.is ∙ c.seek.ensures)

@@ -1,6 +1,6 @@
 -- `kind_of` meets its contract: each arm is a row of the table, and the rest has no row.
 use Rattle.octets.proofs.Rows.{no_row}
-use Rattle.message_numbers.specs.declared.Meant.TheVariants.{Nothing}
+use Rattle.std.specs.Prelude.{None}
 use Rattle.message_numbers.specs.Numbers.{kind_rows, kind_of}
 use Rattle.message_numbers.proofs.back.kind_of.Goals as goal
 
@@ -42,4 +42,4 @@ returns-in-58 c = rw c.in-58.is
 
 pub returns-in_default : goal.returns-in_default
 unfolding kind_of
-returns-in_default c = no_row c.args.numbers.kind Nothing (kind_rows c.args.numbers) c.in_default.in_default-own.rest
+returns-in_default c = no_row c.args.numbers.kind None (kind_rows c.args.numbers) c.in_default.in_default-own.rest

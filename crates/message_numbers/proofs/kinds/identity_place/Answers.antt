@@ -1,8 +1,8 @@
 -- `identity_place` meets its contract, case by case.
 use Rattle.message_numbers.proofs.kinds.identity_place.Goals as goal
 
-pub returns-in-Absent : goal.returns-in-Absent
-returns-in-Absent c = rw c.in-Absent.is
+pub returns-in-None : goal.returns-in-None
+returns-in-None c = rw c.in-None.is
 
-pub returns-in-Present : goal.returns-in-Present
-returns-in-Present c = rw c.in-Present.is c.place_of.ensures
+pub returns-in-Some : goal.returns-in-Some
+returns-in-Some c = rw c.in-Some.is c.place_of.ensures

@@ -1,18 +1,14 @@
--- `digits_before` meets its contract: before each turn what is left tells the number.
-use mathlib.Core.Path.{sym, ◌∙◌}
-use native.Mathlib.Omega.{arith}
-use native.Mathlib.Nat.{zero-add}
-use Rattle.text.proofs.Spelling.{digits-turn, digits-other, digits-done}
+-- `digits_before` meets its contract: the position that the chain finds is the number.
+use Rattle.std.proofs.Common.{◌≡◌, ◌∙◌, sym, ap, length, not, rules, tests}
+use Rattle.std.proofs.lemmas.Iterator.{YieldsList-from_slice}
+use Rattle.std.proofs.lemmas.Iterator.Search.{position_from_yields_List}
+use Rattle.std.specs.List.{position}
+use Rattle.std.specs.Option.{unwrap_or}
+use Rattle.text.specs.Hex.{is_digit}
+use Rattle.text.proofs.Places.{position_else, digits-position}
 use Rattle.text.proofs.hex.digits_before.Goals as goal
 
-pub loop-step-init : goal.loop-step-init
-loop-step-init c = (omega arith, zero-add _)
-
-pub returns-then-not-is_digit : goal.returns-then-not-is_digit
-returns-then-not-is_digit c = record { value = digits-other c.args.either c.args.text.now c.loop-step.step _ c.loop-step-test.true (sym c.is_digit.ensures ∙ c.if-not-is_digit.true) c.loop-step.invariant.1; upper_bound = omega arith }
-
-pub loop-step-preserved : goal.loop-step-preserved
-loop-step-preserved c = (omega arith, digits-turn c.args.either c.args.text.now c.loop-step.step _ c.loop-step-test.true (sym c.is_digit.ensures ∙ c.if-not-is_digit.false) c.loop-step.invariant.1)
-
-pub returns : goal.returns
-returns c = record { value = digits-done c.args.either c.args.text.now c.loop-step.step _ c.loop-step-test.false c.loop-step.invariant.1; upper_bound = omega arith }
+pub returns-clause-value : goal.returns-clause-value
+returns-clause-value c =
+    let found : c.position.result ≡ position (λ x. not (is_digit c.args.either x)) c.args.text.now = position_from_yields_List (λ x. not (is_digit c.args.either x)) _ _ c.position.result c.position.ensures.ran (YieldsList-from_slice c.args.text.now cc) (λ x b q k. search (rules, tests)) in
+    c.unwrap_or.ensures ∙ ap (λ p. unwrap_or p (length c.args.text.now)) found ∙ position_else (λ x. not (is_digit c.args.either x)) c.args.text.now ∙ sym (digits-position c.args.either c.args.text.now)

@@ -1,17 +1,13 @@
--- `find` meets its contract: before each turn what is left tells the place.
-use native.Mathlib.Omega.{arith}
-use native.Mathlib.Nat.{zero-add}
-use Rattle.text.proofs.Parting.{find_here, find_on, find_none}
+-- `find` meets its contract: the position that the chain finds is the place.
+use Rattle.std.proofs.Common.{◌≡◌, ◌∙◌, sym, ap, length, eqb, rules, tests}
+use Rattle.std.proofs.lemmas.Iterator.{YieldsList-from_slice}
+use Rattle.std.proofs.lemmas.Iterator.Search.{position_from_yields_List}
+use Rattle.std.specs.List.{position}
+use Rattle.std.specs.Option.{unwrap_or}
+use Rattle.text.proofs.Places.{position_else, place-position}
 use Rattle.text.proofs.words.find.Goals as goal
 
-pub loop-step-init : goal.loop-step-init
-loop-step-init c = (omega arith, zero-add _)
-
-pub returns-then-text-step : goal.returns-then-text-step
-returns-then-text-step c = record { value = find_here c.args.byte c.args.text.now c.loop-step.step _ c.loop-step-test.true c.if-text-step.true c.loop-step.invariant.1; upper_bound = omega arith }
-
-pub loop-step-preserved : goal.loop-step-preserved
-loop-step-preserved c = (omega arith, find_on c.args.byte c.args.text.now c.loop-step.step _ c.loop-step-test.true c.if-text-step.false c.loop-step.invariant.1)
-
-pub returns : goal.returns
-returns c = record { value = find_none c.args.byte c.args.text.now c.loop-step.step _ c.loop-step-test.false c.loop-step.invariant.1; upper_bound = omega arith }
+pub returns-clause-value : goal.returns-clause-value
+returns-clause-value c =
+    let found : c.position.result ≡ position (λ x. eqb x c.args.byte) c.args.text.now = position_from_yields_List (λ x. eqb x c.args.byte) _ _ c.position.result c.position.ensures.ran (YieldsList-from_slice c.args.text.now cc) (λ x b q k. search (rules, tests)) in
+    c.unwrap_or.ensures ∙ ap (λ p. unwrap_or p (length c.args.text.now)) found ∙ position_else (λ x. eqb x c.args.byte) c.args.text.now ∙ sym (place-position c.args.byte c.args.text.now)

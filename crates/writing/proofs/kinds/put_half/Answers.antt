@@ -5,16 +5,16 @@ use Rattle.writing.proofs.Bodies.{put_none, put_one}
 use Rattle.writing.proofs.kinds.put_half.Goals as goal
 
 pub overflow_add-buffer : goal.overflow_add-buffer
-overflow_add-buffer c = omega (arith, half_below _ _ c.in-Present.is c.requires.2)
+overflow_add-buffer c = omega (arith, half_below _ _ c.in-Some.is c.requires.2)
 
 pub bounds-buffer-at : goal.bounds-buffer-at
-bounds-buffer-at c = half_room _ _ _ _ c.in-Present.is c.requires.0
+bounds-buffer-at c = half_room _ _ _ _ c.in-Some.is c.requires.0
 
 pub overflow_add-result : goal.overflow_add-result
-overflow_add-result c = omega (arith, half_room _ _ _ _ c.in-Present.is c.requires.0)
+overflow_add-result c = omega (arith, half_room _ _ _ _ c.in-Some.is c.requires.0)
 
-pub returns-in-Absent : goal.returns-in-Absent
-returns-in-Absent c = put_none _ _ _ _ c.in-Absent.is
+pub returns-in-None : goal.returns-in-None
+returns-in-None c = put_none _ _ _ _ c.in-None.is
 
-pub returns-in-Present : goal.returns-in-Present
-returns-in-Present c = put_one _ _ _ _ _ c.in-Present.is
+pub returns-in-Some : goal.returns-in-Some
+returns-in-Some c = put_one _ _ _ _ _ c.in-Some.is

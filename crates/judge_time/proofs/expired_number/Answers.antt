@@ -1,0 +1,8 @@
+-- The number of what ends is that of the definition by numbers.
+use mathlib.Core.Path.{◌∙◌, ap}
+use Rattle.timer.specs.Timers.{number_of_any}
+use Rattle.timer.proofs.Numbers.{expired_by_number}
+use Rattle.judge_time.proofs.expired_number.Goals as goal
+
+pub returns : goal.returns
+returns c = c.number_of.ensures ∙ ap number_of_any c.expired_timer.ensures ∙ expired_by_number c.args.event
