@@ -69,7 +69,7 @@ fn set(record: &mut [u8; 36], at: usize, octet: u8) {
 
 fn take_number(
     line: &[u8],
-    at: usize,
+    at: Option<usize>,
     most: u64,
     record: &mut [u8; 36],
     place: usize,
@@ -81,7 +81,7 @@ fn take_number(
 
 fn take_exact(
     line: &[u8],
-    at: usize,
+    at: Option<usize>,
     count: usize,
     record: &mut [u8; 36],
     place: usize,
@@ -94,7 +94,14 @@ fn take_exact(
 }
 
 // The word is read once more into the record, where that has room for its octets.
-fn set_octets(line: &[u8], at: usize, most: u8, count: u8, record: &mut [u8; 36], place: usize) {
+fn set_octets(
+    line: &[u8],
+    at: Option<usize>,
+    most: u8,
+    count: u8,
+    record: &mut [u8; 36],
+    place: usize,
+) {
     set(record, place, count);
     if count <= most {
         octets_word(line, at, record, place.wrapping_add(1));
@@ -103,7 +110,7 @@ fn set_octets(line: &[u8], at: usize, most: u8, count: u8, record: &mut [u8; 36]
 
 fn take_octets(
     line: &[u8],
-    at: usize,
+    at: Option<usize>,
     most: u8,
     record: &mut [u8; 36],
     place: usize,
@@ -114,21 +121,21 @@ fn take_octets(
     Some(next)
 }
 
-fn take_half(line: &[u8], at: usize, record: &mut [u8; 36], place: usize) -> Option<usize> {
+fn take_half(line: &[u8], at: Option<usize>, record: &mut [u8; 36], place: usize) -> Option<usize> {
     let (half, next) = half_word(line, at)?;
     set(record, place, half.is_some() as u8);
     set(record, place.wrapping_add(1), half.unwrap_or(0));
     Some(next)
 }
 
-fn pass_word(line: &[u8], at: usize) -> Option<usize> {
+fn pass_word(line: &[u8], at: Option<usize>) -> Option<usize> {
     let word = next_word(line, at)?;
     Some(word.next)
 }
 
 fn take_word(
     line: &[u8],
-    at: usize,
+    at: Option<usize>,
     letter: u8,
     record: &mut [u8; 36],
     place: usize,
@@ -140,7 +147,7 @@ fn take_word(
         b'C' | b'I' | b'O' => take_octets(line, at, most_octets(letter), record, place, octets),
         b'H' => take_half(line, at, record, place),
         b'K' => pass_word(line, at),
-        _ => Some(at),
+        _ => at,
     }
 }
 
@@ -148,15 +155,15 @@ fn take_word(
 // ones, so a form has one O, behind C and I.
 pub fn take_words(
     line: &[u8],
-    at: usize,
+    at: Option<usize>,
     form: &[u8],
     record: &mut [u8; 36],
     octets: &mut [u8],
 ) -> Option<usize> {
-    let mut next = at;
+    let mut next = at?;
     let mut place: usize = 0;
     for letter in form {
-        next = take_word(line, next, *letter, record, place, octets)?;
+        next = take_word(line, Some(next), *letter, record, place, octets)?;
         place = place.wrapping_add(width(*letter));
     }
     Some(next)

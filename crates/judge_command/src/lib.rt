@@ -14,7 +14,7 @@ use verdict::{Invitation, Judged};
 // `judge CKSN CLASSMARK IDENTITY LOG`. The words before the log stand in a record where `step` has them.
 pub fn answer_judge(
     line: &[u8],
-    at: usize,
+    at: Option<usize>,
     octets: &mut [u8],
     buffer: &mut [u8],
     output: Output,
@@ -29,10 +29,15 @@ pub fn answer_judge(
 }
 
 // How many octets the log has at the start of the lent ones, whose line it ends.
-fn take_log(line: &[u8], at: usize, record: &mut [u8; 36], octets: &mut [u8]) -> Option<usize> {
+fn take_log(
+    line: &[u8],
+    at: Option<usize>,
+    record: &mut [u8; 36],
+    octets: &mut [u8],
+) -> Option<usize> {
     let told = take_words(line, at, b"...........8MI", record, octets)?;
-    let (size, end) = octets_word(line, told, octets, 0)?;
-    if !finished(line, end) {
+    let (size, end) = octets_word(line, Some(told), octets, 0)?;
+    if !finished(line, Some(end)) {
         return None;
     }
     Some(size)

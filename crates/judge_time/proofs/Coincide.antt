@@ -3,7 +3,7 @@ use Prim.Native.Nat.{ℕ}
 use mathlib.Core.Path.{◌≡◌}
 use Rattle.octets.proofs.Coincide.{coincide}
 use Rattle.timer.specs.declared.Timers.{Timers}
-use Rattle.timer.specs.Timers.{running_among}
+use Rattle.timer.specs.Timers.{running_among, expiry_of}
 use Rattle.judge_time.specs.declared.Clock.{Clock}
 use Rattle.judge_time.specs.declared.Ticked.{Ticked}
 use Rattle.judge_time.specs.Clock.{tick_of}
@@ -13,3 +13,7 @@ tick_coincides c before after delta event = coincide (tick_of c before after del
 
 pub running_number_coincides : (t : Timers) (a b : ℕ) → a ≡ running_among t → b ≡ running_among t → a ≡ b
 running_number_coincides t a b = coincide (running_among t) a b
+
+-- expired_number, which is private: the law by number of the timer whose expiry an event is
+pub expired_number_coincides : (event a b : ℕ) → a ≡ expiry_of event → b ≡ expiry_of event → a ≡ b
+expired_number_coincides event = coincide (expiry_of event)

@@ -2,10 +2,10 @@
 #![tactic(auto)]
 
 ghost use Rattle.std.specs.Prelude.{◌≡◌};
-ghost use Rattle.timer.specs.Timers.{running_among, expiry_of, number_of_any, length_of};
+ghost use Rattle.timer.specs.Timers.{running_among, expiry_of};
 ghost use Rattle.judge_time.specs.Clock.{astray, greatest_left, least_left, left_with, started_at, tick_of, untimely_at, while_running, window_left};
 
-use timer::{Timer, Timers, Window};
+use timer::{Timer, Timers, Window, timer_length, timer_number};
 
 // The time, when the timer that runs was started, and the joining timers and the invitation timers that explain the entries so far: any of the ones with any of
 // the others. In milliseconds.
@@ -37,8 +37,8 @@ impl Clock {
 fn is_untimely(timer: u8, age: u64, ends: bool) -> bool
     ensures { result ≡ untimely_at timer age ends }
 {
-    let joining = timer::timer_number(Timer::ConnReq);
-    let invitation = timer::timer_number(Timer::Pres);
+    let joining = timer_number(Some(Timer::ConnReq));
+    let invitation = timer_number(Some(Timer::Pres));
     let length = timer_length(0, 0, timer) as u64;
     let wrong = (ends & (age != length)) | (length < age);
     (timer != joining) & ((timer != invitation) & wrong)
@@ -129,9 +129,9 @@ fn while_running(
     if is_untimely(timer, age, ends) {
         return Ticked::OutOfTime;
     }
-    let joins = timer == timer::timer_number(Timer::ConnReq);
+    let joins = timer == timer_number(Some(Timer::ConnReq));
     let joining_left = window_left(joins, age, ends, joining);
-    let invites = timer == timer::timer_number(Timer::Pres);
+    let invites = timer == timer_number(Some(Timer::Pres));
     let invitation_left = window_left(invites, age, ends, invitation);
     left_with(joining_left, invitation_left, time, started)
 }
@@ -166,36 +166,12 @@ pub fn tick(clock: Clock, before: u8, after: u8, delta: u32, event: u8) -> Ticke
 pub fn running_number(timers: Timers) -> u8
     ensures { result ≡ running_among timers }
 {
-    number_of(timer::running_timer(timers))
+    timer_number(timer::running_timer(timers))
 }
 
 // The number of the timer whose expiry an event is, 0 where it is none.
 fn expired_number(event: u32) -> u8
     ensures { result ≡ expiry_of event }
 {
-    number_of(timer::expired_timer(event))
-}
-
-// The number of a timer, 0 for none.
-fn number_of(timer: Option<Timer>) -> u8
-    ensures { result ≡ number_of_any timer }
-{
-    match timer {
-        None => 0,
-        Some(timer) => timer::timer_number(timer),
-    }
-}
-
-// The length of the timer of a number, in milliseconds, where the joining timer is set to `joining` and the invitation timer to `invitation`; 0 for no timer.
-fn timer_length(joining: u32, invitation: u32, timer: u8) -> u32
-    ensures { result ≡ length_of joining invitation timer }
-{
-    match timer {
-        1 => Timers::MM_EST,
-        2 => Timers::TERM,
-        3 => joining,
-        4 => Timers::NO_CHANNEL,
-        5 => invitation,
-        _ => 0,
-    }
+    timer_number(timer::expired_timer(event))
 }

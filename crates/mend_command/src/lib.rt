@@ -14,7 +14,7 @@ use text::words::{finished, part};
 // `mend CKSN CLASSMARK IDENTITY COPYLEN LOG`. The words before the copy's length stand in a record where `step` has them.
 pub fn answer_mend(
     line: &[u8],
-    at: usize,
+    at: Option<usize>,
     octets: &mut [u8],
     buffer: &mut [u8],
     output: Output,
@@ -36,14 +36,14 @@ pub fn answer_mend(
 // The copy's length, and how many octets the log has at the start of the lent ones, whose line it ends.
 fn take_lengths(
     line: &[u8],
-    at: usize,
+    at: Option<usize>,
     record: &mut [u8; 36],
     octets: &mut [u8],
 ) -> Option<(u64, usize)> {
     let told = take_words(line, at, b"...........8MI", record, octets)?;
-    let (length, log) = number_word(line, told, 4294967295)?;
-    let (size, end) = octets_word(line, log, octets, 0)?;
-    if !finished(line, end) {
+    let (length, log) = number_word(line, Some(told), 4294967295)?;
+    let (size, end) = octets_word(line, Some(log), octets, 0)?;
+    if !finished(line, Some(end)) {
         return None;
     }
     Some((length, size))

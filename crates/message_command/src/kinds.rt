@@ -1,5 +1,5 @@
 // The kinds of messages, as forms of the words that spell a message and of the answer that tells one.
-use text::words::{next_word, part};
+use text::words::{part, word_at};
 
 // A row of 44 characters for each message type from 31 hex on, of which 37 hex is none, and behind them two for the answers 6 and 13. All kinds have their fields in
 // one record: 0 LENGTH or the answer, 1 flag, 2 transaction value, 3 key number, 4 to 7 classmark, 8 and 9 identity, 10 to 13 reference, 14 originator, 15 and 16
@@ -42,7 +42,7 @@ pub(crate) fn row_of(rows: &[u8; 528], kind: u8) -> &[u8] {
 // The name in the row of a type.
 fn name_of(rows: &[u8; 528], kind: u8) -> &[u8] {
     let row = row_of(rows, kind);
-    match next_word(row, NAME) {
+    match word_at(row, NAME) {
         None => b"",
         Some(word) => part(row, NAME, word.count),
     }

@@ -18,13 +18,13 @@ struct Told {
 pub fn answer_read(
     protocol: Protocol,
     line: &[u8],
-    at: usize,
+    at: Option<usize>,
     octets: &mut [u8],
     buffer: &mut [u8],
     output: Output,
 ) -> Output {
     match octets_word(line, at, octets, 0) {
-        Some((count, end)) if finished(line, end) => {
+        Some((count, end)) if finished(line, Some(end)) => {
             say_reading(protocol, buffer, output, part(octets, 0, count))
         }
         _ => malformed(buffer, output),

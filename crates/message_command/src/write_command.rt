@@ -7,12 +7,12 @@ use fields::malformed;
 use forms::{say_words, take_words, up_to};
 use message_numbers::{Four, Numbers, NumbersWritten, Optional, Place, Three};
 use text::output::Output;
-use text::words::{finished, next_word, part};
+use text::words::{finished, next_word, part, word_at};
 
 pub fn answer_write(
     protocol: Protocol,
     line: &[u8],
-    at: usize,
+    at: Option<usize>,
     octets: &mut [u8],
     buffer: &mut [u8],
     output: Output,
@@ -26,22 +26,27 @@ pub fn answer_write(
 }
 
 // The kind of the message that the whole line spells, whose fields are put into the record.
-fn take_fields(line: &[u8], at: usize, record: &mut [u8; 36], octets: &mut [u8]) -> Option<u8> {
+fn take_fields(
+    line: &[u8],
+    at: Option<usize>,
+    record: &mut [u8; 36],
+    octets: &mut [u8],
+) -> Option<u8> {
     let rows = rows();
     let kind = kind_at(&rows, line, at)?;
     let end = take_words(line, at, row_of(&rows, kind), record, octets)?;
-    if !finished(line, end) {
+    if !finished(line, Some(end)) {
         return None;
     }
     Some(kind)
 }
 
 // The kind stands behind three words.
-fn kind_at(rows: &[u8; 528], line: &[u8], at: usize) -> Option<u8> {
+fn kind_at(rows: &[u8; 528], line: &[u8], at: Option<usize>) -> Option<u8> {
     let room = next_word(line, at)?;
-    let flag = next_word(line, room.next)?;
-    let value = next_word(line, flag.next)?;
-    let kind = next_word(line, value.next)?;
+    let flag = word_at(line, room.next)?;
+    let value = word_at(line, flag.next)?;
+    let kind = word_at(line, value.next)?;
     kind_named(rows, part(line, kind.start, kind.count))
 }
 

@@ -9,7 +9,7 @@ use record_command::answer_record;
 use settings_command::answer_settings;
 use step_command::answer_step;
 use text::output::Output;
-use text::words::{next_word, part};
+use text::words::{part, word_at};
 use version::Table;
 
 // A command, of one kind of call where there is one for each.
@@ -31,12 +31,12 @@ pub(crate) fn answer_line(
     buffer: &mut [u8],
     output: Output,
 ) -> Output {
-    let Some(word) = next_word(line, 0) else {
+    let Some(word) = word_at(line, 0) else {
         return malformed(buffer, output);
     };
     match command_of(part(line, word.start, word.count)) {
         None => malformed(buffer, output),
-        Some(command) => answer_command(command, line, word.next, octets, buffer, output),
+        Some(command) => answer_command(command, line, Some(word.next), octets, buffer, output),
     }
 }
 
@@ -61,7 +61,7 @@ fn command_of(name: &[u8]) -> Option<Command> {
 fn answer_command(
     command: Command,
     line: &[u8],
-    at: usize,
+    at: Option<usize>,
     octets: &mut [u8],
     buffer: &mut [u8],
     output: Output,

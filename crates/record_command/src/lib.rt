@@ -36,11 +36,11 @@ struct Told {
 
 // DELTA EVENT ETV EREF MODE.
 fn happened_word(line: &[u8], at: usize) -> Option<(TimedEvent, usize)> {
-    let (delta, at) = number_word(line, at, MOST)?;
-    let (event, at) = number_word(line, at, MOST)?;
-    let (value, at) = number_word(line, at, MOST)?;
-    let (reference, at) = reference_word(line, at)?;
-    let (mode, at) = number_word(line, at, MOST)?;
+    let (delta, at) = number_word(line, Some(at), MOST)?;
+    let (event, at) = number_word(line, Some(at), MOST)?;
+    let (value, at) = number_word(line, Some(at), MOST)?;
+    let (reference, at) = reference_word(line, Some(at))?;
+    let (mode, at) = number_word(line, Some(at), MOST)?;
     let happened = TimedEvent {
         delta: delta as u32,
         event: event as u32,
@@ -53,10 +53,10 @@ fn happened_word(line: &[u8], at: usize) -> Option<(TimedEvent, usize)> {
 
 // ANSWER STATE PARAMS ACTIONS.
 fn claims_word(line: &[u8], at: usize) -> Option<(Claims, usize)> {
-    let (answer, at) = number_word(line, at, MOST)?;
-    let (state, at) = number_word(line, at, MOST)?;
-    let (parameters, at) = number_word(line, at, MOST)?;
-    let (actions, at) = number_word(line, at, MOST)?;
+    let (answer, at) = number_word(line, Some(at), MOST)?;
+    let (state, at) = number_word(line, Some(at), MOST)?;
+    let (parameters, at) = number_word(line, Some(at), MOST)?;
+    let (actions, at) = number_word(line, Some(at), MOST)?;
     let claims = Claims {
         answer: answer as u32,
         state: state as u32,
@@ -68,7 +68,7 @@ fn claims_word(line: &[u8], at: usize) -> Option<(Claims, usize)> {
 
 // Octets that are put behind the first `start` of the lent ones.
 fn place_word(line: &[u8], at: usize, octets: &mut [u8], start: usize) -> Option<(Place, usize)> {
-    let (count, next) = octets_word(line, at, octets, start)?;
+    let (count, next) = octets_word(line, Some(at), octets, start)?;
     Some((Place { start, count }, next))
 }
 
@@ -80,14 +80,14 @@ fn first_octets(octets: &[u8], place: Place, few: &mut [u8]) -> usize {
 }
 
 // BUF USED DELTA EVENT ETV EREF MODE OCTETS ANSWER STATE PARAMS ACTIONS REPLY, which are the whole line.
-fn take_fields(line: &[u8], at: usize, octets: &mut [u8]) -> Option<Told> {
+fn take_fields(line: &[u8], at: Option<usize>, octets: &mut [u8]) -> Option<Told> {
     let (size, at) = octets_word(line, at, octets, 0)?;
-    let (used, at) = number_word(line, at, MOST)?;
+    let (used, at) = number_word(line, Some(at), MOST)?;
     let (happened, at) = happened_word(line, at)?;
     let (heard, at) = place_word(line, at, octets, size)?;
     let (claims, at) = claims_word(line, at)?;
     let (sent, at) = place_word(line, at, octets, size.wrapping_add(heard.count))?;
-    if !finished(line, at) {
+    if !finished(line, Some(at)) {
         return None;
     }
     Some(Told {
@@ -104,7 +104,7 @@ fn take_fields(line: &[u8], at: usize, octets: &mut [u8]) -> Option<Told> {
 pub fn answer_record(
     table: Table,
     line: &[u8],
-    at: usize,
+    at: Option<usize>,
     octets: &mut [u8],
     buffer: &mut [u8],
     output: Output,

@@ -11,13 +11,13 @@ use text::words::{finished, part};
 
 pub fn answer_settings(
     line: &[u8],
-    at: usize,
+    at: Option<usize>,
     octets: &mut [u8],
     buffer: &mut [u8],
     output: Output,
 ) -> Output {
     match octets_word(line, at, octets, 0) {
-        Some((count, end)) if finished(line, end) => {
+        Some((count, end)) if finished(line, Some(end)) => {
             say_reading(buffer, output, part(octets, 0, count))
         }
         _ => malformed(buffer, output),

@@ -25,14 +25,14 @@ fn row_of(table: Table) -> usize {
 pub fn answer_step(
     table: Table,
     line: &[u8],
-    at: usize,
+    at: Option<usize>,
     octets: &mut [u8],
     buffer: &mut [u8],
     output: Output,
 ) -> Output {
     let mut record = [0u8; 36];
     match take_step_words(row_of(table), line, at, &mut record, octets) {
-        Some(end) if finished(line, end) => say_step(table, &record, octets, buffer, output),
+        Some(end) if finished(line, Some(end)) => say_step(table, &record, octets, buffer, output),
         _ => malformed(buffer, output),
     }
 }
@@ -43,7 +43,7 @@ pub fn answer_step(
 fn take_step_words(
     row: usize,
     line: &[u8],
-    at: usize,
+    at: Option<usize>,
     record: &mut [u8; 36],
     octets: &mut [u8],
 ) -> Option<usize> {

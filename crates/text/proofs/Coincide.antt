@@ -9,7 +9,7 @@ use Rattle.text.specs.declared.words.Word.{Word}
 use Rattle.text.specs.Decimal.{number_of}
 use Rattle.text.specs.Hex.{digits_before, spelt, spelt_leaves}
 use Rattle.text.specs.Output.{behind, put_leaves}
-use Rattle.text.specs.Words.{place_of, same_text, part_of, word_from, finished_at}
+use Rattle.text.specs.Words.{place_of, same_text, part_of, word_from, next_from, finished_at}
 
 -- One law for every function.
 coincide : {A : Type 0} (x y meaning : A) → x ≡ meaning → y ≡ meaning → x ≡ y
@@ -51,9 +51,13 @@ pub part_coincides : (t : List ℕ) (start count : ℕ) (x y : List ℕ) → x �
 part_coincides t start count x y = coincide x y (part_of t start count)
 
 -- words::next_word
-pub next_word_coincides : (t : List ℕ) (at : ℕ) (x y : Option Word) → x ≡ word_from t at → y ≡ word_from t at → x ≡ y
-next_word_coincides t at x y = coincide x y (word_from t at)
+pub next_word_coincides : (t : List ℕ) (at : Option ℕ) (x y : Option Word) → x ≡ next_from t at → y ≡ next_from t at → x ≡ y
+next_word_coincides t at x y = coincide x y (next_from t at)
+
+-- words::word_at
+pub word_at_coincides : (t : List ℕ) (at : ℕ) (x y : Option Word) → x ≡ word_from t at → y ≡ word_from t at → x ≡ y
+word_at_coincides t at x y = coincide x y (word_from t at)
 
 -- words::finished
-pub finished_coincides : (t : List ℕ) (at : ℕ) (x y : Bool) → x ≡ finished_at t at → y ≡ finished_at t at → x ≡ y
+pub finished_coincides : (t : List ℕ) (at : Option ℕ) (x y : Bool) → x ≡ finished_at t at → y ≡ finished_at t at → x ≡ y
 finished_coincides t at x y = coincide x y (finished_at t at)

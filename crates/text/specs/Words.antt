@@ -29,6 +29,12 @@ word_from line at =
       next = at + place_of 32 (drop at line) + 1;
     })))
 
--- The last word ended with the line.
-unfoldable pub finished_at : List ℕ → ℕ → Bool
-finished_at line at = ltb (length line) at
+-- The same where a place may be none, behind a word that was none: none is there then.
+unfoldable pub next_from : List ℕ → Option ℕ → Option Word
+next_from line None = None
+next_from line (Some at) = word_from line at
+
+-- Every word was there and the last ended with the line.
+unfoldable pub finished_at : List ℕ → Option ℕ → Bool
+finished_at line None = false
+finished_at line (Some at) = ltb (length line) at

@@ -1,6 +1,6 @@
 // Lines and words.
 ghost use Rattle.std.specs.Prelude.{◌≡◌, ◌+◌, ◌≤◌, length};
-ghost use Rattle.text.specs.Words.{place_of, same_text, part_of, word_from, finished_at};
+ghost use Rattle.text.specs.Words.{place_of, same_text, part_of, word_from, next_from, finished_at};
 
 // A word: its place, how many characters it has, and the place of the word behind it.
 #[derive(Clone, Copy)]
@@ -40,9 +40,19 @@ pub fn part(text: &[u8], start: usize, count: usize) -> &[u8]
     &text[start..start + count]
 }
 
+// The next word of a line, of which none may be left to ask for: behind a word that is none there is none either.
+pub fn next_word(line: &[u8], at: Option<usize>) -> Option<Word>
+    ensures { result ≡ next_from line.now at }
+{
+    match at {
+        None => None,
+        Some(at) => word_at(line, at),
+    }
+}
+
 // The word of a line that stands at a place; the first stands at 0. Words are parted by one space. There is none past the line's end, and none where it would be
 // empty.
-pub fn next_word(line: &[u8], at: usize) -> Option<Word>
+pub fn word_at(line: &[u8], at: usize) -> Option<Word>
     ensures { result ≡ word_from line.now at }
 {
     if line.len() < at {
@@ -59,9 +69,12 @@ pub fn next_word(line: &[u8], at: usize) -> Option<Word>
     })
 }
 
-// Whether the word before the place `at` of a next one ended with the line.
-pub fn finished(line: &[u8], at: usize) -> bool
+// Whether every word was there and the last, behind which stands the place `at` of a next one, ended with the line.
+pub fn finished(line: &[u8], at: Option<usize>) -> bool
     ensures { result ≡ finished_at line.now at }
 {
-    line.len() < at
+    match at {
+        None => false,
+        Some(at) => line.len() < at,
+    }
 }

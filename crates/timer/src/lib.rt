@@ -2,7 +2,7 @@
 #![tactic(auto)]
 
 ghost use Rattle.std.specs.Prelude.{◌≡◌};
-ghost use Rattle.timer.specs.Timers.{timer_number, running_timer, expired_timer, timer_row, with_timer};
+ghost use Rattle.timer.specs.Timers.{number_of_any, running_timer, expired_timer, length_of, timer_row, with_timer};
 
 use codes::wide::event;
 
@@ -50,11 +50,14 @@ impl Timers {
     pub const INVITATION_GREATEST: u32 = 600000;
 }
 
-// The number of a timer.
-pub fn timer_number(timer: Timer) -> u8
-    ensures { result ≡ timer_number timer }
+// The number of a timer, 0 for none.
+pub fn timer_number(timer: Option<Timer>) -> u8
+    ensures { result ≡ number_of_any timer }
 {
-    timer as u8
+    match timer {
+        None => 0,
+        Some(timer) => timer as u8,
+    }
 }
 
 // The timer that runs, if any. In a fit context at most one does.
@@ -95,8 +98,22 @@ pub fn expired_timer(event: u32) -> Option<Timer>
     }
 }
 
-// The length of a timer in milliseconds, where the joining timer is set to `joining` and the invitation timer to `invitation`.
-pub fn timer_length(joining: u32, invitation: u32, timer: Timer) -> u32
+// The length of the timer of a number, in milliseconds, where the joining timer is set to `joining` and the invitation timer to `invitation`; 0 for no timer.
+pub fn timer_length(joining: u32, invitation: u32, timer: u8) -> u32
+    ensures { result ≡ length_of joining invitation timer }
+{
+    match timer {
+        1 => milliseconds(joining, invitation, Timer::MmEst),
+        2 => milliseconds(joining, invitation, Timer::Term),
+        3 => milliseconds(joining, invitation, Timer::ConnReq),
+        4 => milliseconds(joining, invitation, Timer::NoChannel),
+        5 => milliseconds(joining, invitation, Timer::Pres),
+        _ => 0,
+    }
+}
+
+// The same of a timer that is told by what it is.
+pub fn milliseconds(joining: u32, invitation: u32, timer: Timer) -> u32
     ensures { result ≡ (timer_row joining invitation timer).milliseconds }
 {
     match timer {

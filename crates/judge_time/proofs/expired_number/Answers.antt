@@ -5,4 +5,4 @@ use Rattle.timer.proofs.Numbers.{expired_by_number}
 use Rattle.judge_time.proofs.expired_number.Goals as goal
 
 pub returns : goal.returns
-returns c = c.number_of.ensures ∙ ap number_of_any c.expired_timer.ensures ∙ expired_by_number c.args.event
+returns c = c.timer_number.ensures ∙ ap number_of_any c.expired_timer.ensures ∙ expired_by_number c.args.event

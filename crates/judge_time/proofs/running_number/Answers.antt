@@ -5,4 +5,4 @@ use Rattle.timer.proofs.Numbers.{running_by_number}
 use Rattle.judge_time.proofs.running_number.Goals as goal
 
 pub returns : goal.returns
-returns c = c.number_of.ensures ∙ ap number_of_any c.running_timer.ensures ∙ running_by_number c.args.timers
+returns c = c.timer_number.ensures ∙ ap number_of_any c.running_timer.ensures ∙ running_by_number c.args.timers

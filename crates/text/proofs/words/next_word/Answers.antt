@@ -1,12 +1,12 @@
--- `next_word` meets its contract: its tests in order.
-use Rattle.text.proofs.Parting.{word_past, word_empty, word_there}
+-- `next_word` meets its contract: nowhere there is none, and at a place it is the word there.
+use mathlib.Core.Path.{refl}
+use Rattle.text.specs.Words.{next_from}
 use Rattle.text.proofs.words.next_word.Goals as goal
 
-pub returns-then-line-at : goal.returns-then-line-at
-returns-then-line-at c = word_past c.args.line.now _ c.if-line-at.true
+pub returns-in-None : goal.returns-in-None
+unfolding next_from
+returns-in-None c = rw c.in-None.is
 
-pub returns-then-count-eq0 : goal.returns-then-count-eq0
-returns-then-count-eq0 c = word_empty c.args.line.now _ _ c.if-line-at.false c.find-count.ensures.value c.if-count-eq0.true
-
-pub returns : goal.returns
-returns c = word_there c.args.line.now _ _ c.if-line-at.false c.find-count.ensures.value c.if-count-eq0.false
+pub returns-in-Some : goal.returns-in-Some
+unfolding next_from
+returns-in-Some c = rw (c.in-Some.is, c.word_at.ensures)

@@ -2,27 +2,27 @@
 use Prim.Native.Nat.{ℕ}
 use Rattle.octets.proofs.Rows.{no_row}
 use Rattle.timer.specs.Timers.{lengths, length_of}
-use Rattle.judge_time.proofs.timer_length.Goals as goal
+use Rattle.timer.proofs.timer_length.Goals as goal
 
 pub returns-in-1 : goal.returns-in-1
 unfolding length_of
-returns-in-1 c = rw c.in-1.is
+returns-in-1 c = rw (c.in-1.is, c.milliseconds.ensures)
 
 pub returns-in-2 : goal.returns-in-2
 unfolding length_of
-returns-in-2 c = rw c.in-2.is
+returns-in-2 c = rw (c.in-2.is, c.milliseconds-in-2.ensures)
 
 pub returns-in-3 : goal.returns-in-3
 unfolding length_of
-returns-in-3 c = rw c.in-3.is
+returns-in-3 c = rw (c.in-3.is, c.milliseconds-in-3.ensures)
 
 pub returns-in-4 : goal.returns-in-4
 unfolding length_of
-returns-in-4 c = rw c.in-4.is
+returns-in-4 c = rw (c.in-4.is, c.milliseconds-in-4.ensures)
 
 pub returns-in-5 : goal.returns-in-5
 unfolding length_of
-returns-in-5 c = rw c.in-5.is
+returns-in-5 c = rw (c.in-5.is, c.milliseconds-in-5.ensures)
 
 pub returns-in_default : goal.returns-in_default
 unfolding length_of
