@@ -18,6 +18,8 @@ use settings_words::argument::run_settings;
 use text::hex::read_hex;
 use text::words::part;
 
+// Part of its caller: its buffers share the room of those of the other words then, and do not stand below them.
+#[inline(always)]
 fn run_message(rt: &HostRuntime) -> Result<(), Failure> {
     if argument_count(rt) < 3 {
         complain(b"heidezirkel message: the message is missing: give its octets in hexadecimal\n");
