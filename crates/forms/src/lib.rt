@@ -18,7 +18,7 @@ use fields::octet_at;
 use fields::words::{half_word, number_word, octets_word};
 use saying::{say, say_hex, say_number};
 use text::output::Output;
-use text::words::{next_word, part};
+use text::words::{part, word_at};
 
 // How many octets of the record a letter has.
 fn width(letter: u8) -> usize {
@@ -69,24 +69,24 @@ fn set(record: &mut [u8; 36], at: usize, octet: u8) {
 
 fn take_number(
     line: &[u8],
-    at: Option<usize>,
+    at: usize,
     most: u64,
     record: &mut [u8; 36],
     place: usize,
 ) -> Option<usize> {
-    let (number, next) = number_word(line, at, most)?;
+    let (number, next) = number_word(line, Some(at), most)?;
     set(record, place, clipped(number));
     Some(next)
 }
 
 fn take_exact(
     line: &[u8],
-    at: Option<usize>,
+    at: usize,
     count: usize,
     record: &mut [u8; 36],
     place: usize,
 ) -> Option<usize> {
-    let (spelt, next) = octets_word(line, at, record, place)?;
+    let (spelt, next) = octets_word(line, Some(at), record, place)?;
     if spelt != count {
         return None;
     }
@@ -94,48 +94,41 @@ fn take_exact(
 }
 
 // The word is read once more into the record, where that has room for its octets.
-fn set_octets(
-    line: &[u8],
-    at: Option<usize>,
-    most: u8,
-    count: u8,
-    record: &mut [u8; 36],
-    place: usize,
-) {
+fn set_octets(line: &[u8], at: usize, most: u8, count: u8, record: &mut [u8; 36], place: usize) {
     set(record, place, count);
     if count <= most {
-        octets_word(line, at, record, place.wrapping_add(1));
+        octets_word(line, Some(at), record, place.wrapping_add(1));
     }
 }
 
 fn take_octets(
     line: &[u8],
-    at: Option<usize>,
+    at: usize,
     most: u8,
     record: &mut [u8; 36],
     place: usize,
     octets: &mut [u8],
 ) -> Option<usize> {
-    let (count, next) = octets_word(line, at, octets, 0)?;
+    let (count, next) = octets_word(line, Some(at), octets, 0)?;
     set_octets(line, at, most, clipped(count as u64), record, place);
     Some(next)
 }
 
-fn take_half(line: &[u8], at: Option<usize>, record: &mut [u8; 36], place: usize) -> Option<usize> {
-    let (half, next) = half_word(line, at)?;
+fn take_half(line: &[u8], at: usize, record: &mut [u8; 36], place: usize) -> Option<usize> {
+    let (half, next) = half_word(line, Some(at))?;
     set(record, place, half.is_some() as u8);
     set(record, place.wrapping_add(1), half.unwrap_or(0));
     Some(next)
 }
 
-fn pass_word(line: &[u8], at: Option<usize>) -> Option<usize> {
-    let word = next_word(line, at)?;
+fn pass_word(line: &[u8], at: usize) -> Option<usize> {
+    let word = word_at(line, at)?;
     Some(word.next)
 }
 
 fn take_word(
     line: &[u8],
-    at: Option<usize>,
+    at: usize,
     letter: u8,
     record: &mut [u8; 36],
     place: usize,
@@ -147,7 +140,7 @@ fn take_word(
         b'C' | b'I' | b'O' => take_octets(line, at, most_octets(letter), record, place, octets),
         b'H' => take_half(line, at, record, place),
         b'K' => pass_word(line, at),
-        _ => at,
+        _ => Some(at),
     }
 }
 
@@ -163,7 +156,7 @@ pub fn take_words(
     let mut next = at?;
     let mut place: usize = 0;
     for letter in form {
-        next = take_word(line, Some(next), *letter, record, place, octets)?;
+        next = take_word(line, next, *letter, record, place, octets)?;
         place = place.wrapping_add(width(*letter));
     }
     Some(next)

@@ -1,5 +1,4 @@
 -- `next_word` meets its contract: nowhere there is none, and at a place it is the word there.
-use mathlib.Core.Path.{refl}
 use Rattle.text.specs.Words.{next_from}
 use Rattle.text.proofs.words.next_word.Goals as goal
 
